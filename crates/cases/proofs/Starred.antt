@@ -1,0 +1,12 @@
+-- The definitions agree with every starred case: each side computes. Assumes nothing.
+use mathlib.Core.Path.{refl}
+use Rattle.adpcm.specs.Code.{sumOf}
+use Rattle.adpcm.specs.Adpcm.{sampleOf}
+use Rattle.adpcm.specs.Public.{publicSample}
+use Rattle.cases.specs.Starred.{StarredCasesHold}
+
+pub starred-cases-hold : StarredCasesHold
+unfolding sampleOf publicSample sumOf
+starred-cases-hold = record {
+  holds = (refl, (refl, (refl, (refl, (refl, (refl, ((refl, refl), ((refl, refl), ((refl, refl), ((refl, refl), tt))))))))));
+}

@@ -1,0 +1,57 @@
+-- The starred cases of document 01, "Checked by hand", in its order, and the claim that the definitions agree with every one.
+-- `proofs/Starred.antt` proves the claim. A case is an input with its outcome; another kind of case is one constructor and one line of `Agrees` more.
+-- Assumes nothing.
+use Prim.Native.Nat.{ℕ}
+use mathlib.Core.Path.{_≡_}
+use mathlib.Core.List.{List, [], _∷_}
+use lib.ListN.{replicate}
+use lib.IntN.{ℤ, pos, negsuc}
+use Rattle.memory.specs.Choice.{chosen}
+use Rattle.memory.specs.Little.{atDsp32, dsp32Bytes}
+use Rattle.adpcm.specs.declared.History.{History}
+use Rattle.adpcm.specs.Code.{Code, code, decodedSamples, decodedHistory}
+use Rattle.adpcm.specs.Adpcm.{sampleOf}
+use Rattle.adpcm.specs.Public.{publicSample}
+
+abbrev history : ℤ → ℤ → History
+history yn1 yn2 = record { yn1 = yn1; yn2 = yn2 }
+
+pub data Case : Type 0 where
+  -- two counters, and the region chosen
+  counters : (first second region : ℕ) → Case
+  -- four bytes, and the dsp32 that they mean
+  dsp32 : (bytes : List ℕ) (value : ℕ) → Case
+  -- coefficients, history, bytes and count, and the samples and the history after them
+  decode : (coefficients : List ℤ) (h : History) (bytes : List ℕ) (count : ℕ) (samples : List ℤ) (last : History) → Case
+  -- a history and a code, the sample, and the sample of the public description, which does not wrap
+  step : (h : History) (c : Code) (sample published : ℤ) → Case
+
+-- the definitions give the case's outcome
+abbrev pub Agrees : Case → Type 0
+Agrees (counters first second region) = chosen first second ≡ region
+Agrees (dsp32 bytes value) = (atDsp32 bytes 0 ≡ value) × (dsp32Bytes value ≡ bytes)
+Agrees (decode coefficients h bytes count samples last) =
+    (decodedSamples sampleOf coefficients h bytes count ≡ samples) × (decodedHistory sampleOf coefficients h bytes count ≡ last)
+Agrees (step h c sample published) = (sampleOf h c ≡ sample) × (publicSample h c ≡ published)
+
+abbrev pub starred : List Case
+starred =
+    counters 1 1 1
+    ∷ counters 2 1 0
+    ∷ counters 65535 65534 0
+    ∷ counters 65535 0 1
+    ∷ counters 0 65535 0
+    ∷ counters 65534 65535 1
+    ∷ dsp32 (1 ∷ 0 ∷ 69 ∷ 35 ∷ []) 74565
+    ∷ decode (replicate 16 (pos 0)) (history (pos 0) (pos 0)) (0 ∷ 31 ∷ 112 ∷ replicate 5 0) 3 (pos 1 ∷ negsuc 0 ∷ pos 7 ∷ []) (history (pos 7) (negsuc 0))
+    ∷ step (history (negsuc 32767) (negsuc 32767)) (code 0 (negsuc 32767) (negsuc 32767) 0) (negsuc 32767) (pos 32767)
+    ∷ step (history (pos 0) (pos 0)) (code 15 (pos 0) (pos 0) 8) (negsuc 32767) (negsuc 32767)
+    ∷ []
+
+-- every case of a list
+abbrev pub All : List Case → Type 0
+All [] = Unit
+All (c ∷ cs) = Agrees c × All cs
+
+pub record StarredCasesHold : Type 0 where
+  pub holds : All starred

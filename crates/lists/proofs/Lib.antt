@@ -1,0 +1,6 @@
+pub mod Bools
+pub mod Chunks
+pub mod Fill
+pub mod Splice
+pub mod Tabulate
+pub mod Walk

@@ -1,0 +1,21 @@
+-- A walk over a list by an index: what is left of it, one element further; and the two sides of a bound. Assumes nothing.
+use mathlib.Core.Path.{_≡_, sym, ap, _∙_}
+use mathlib.Core.List.{List, [], _∷_}
+use mathlib.Core.Logic.{_⊎_, inl, inr}
+use Prim.Native.Nat.{ℕ, _+_, _<_, _≤_}
+use native.Mathlib.Decide.{decLt}
+use native.Mathlib.Numerals.{add-one}
+use native.Mathlib.Omega.{arith}
+use lib.ListN.{length, drop, getD, drop-of-length-le}
+use lib.Seq.{drop-cons}
+
+-- one number is below another, or it is not
+pub below-or : (m n : ℕ) → (m < n) ⊎ (n ≤ m)
+below-or m n = elim (decLt m n) [ yes h ↦ inl h | no h ↦ inr (omega arith) ]
+
+module _ {A : Type 0} where
+  pub drop-next : (xs : List A) (i : ℕ) (d : A) → i < length xs → drop i xs ≡ getD xs i d ∷ drop (i + 1) xs
+  drop-next xs i d h = drop-cons xs i d h ∙ ap (λ (n : ℕ). getD xs i d ∷ drop n xs) (sym (add-one i))
+
+  pub drop-end : (xs : List A) (i : ℕ) → length xs ≤ i → drop i xs ≡ []
+  drop-end xs i h = drop-of-length-le xs h

@@ -1,0 +1,6 @@
+pub mod Choice
+pub mod Fields
+pub mod Flags
+pub mod Little
+pub mod Places
+pub mod Window

@@ -1,0 +1,4 @@
+pub mod Bounds
+pub mod Clamp
+pub mod Ranges
+pub mod Wraps

@@ -1,0 +1,2 @@
+// Numbers as the DSP has them.
+pub mod whole;

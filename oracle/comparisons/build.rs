@@ -1,0 +1,8 @@
+//! links the port, which `rt staticlib exports` writes.
+
+fn main() {
+    let folder = format!("{}/../../target/staticlib", std::env::var("CARGO_MANIFEST_DIR").unwrap());
+    println!("cargo:rerun-if-changed={folder}/libexports.a");
+    println!("cargo:rustc-link-search=native={folder}");
+    println!("cargo:rustc-link-lib=static=exports");
+}

@@ -1,0 +1,71 @@
+//! the port's exported functions. every slice is declared flat, as a pointer
+//! and a count; each wrapper tests what its function requires.
+
+unsafe extern "C" {
+    fn yinzhor_current_region(first: u16, second: u16) -> u32;
+    fn yinzhor_read_dsp32(bytes: *const u8, len: usize, at: usize) -> u32;
+    fn yinzhor_write_dsp32(bytes: *mut u8, len: usize, at: usize, value: u32);
+    fn yinzhor_layout_number(first: usize, second: usize, offsets: *const u32, len: usize) -> u8;
+    fn yinzhor_window_number(base: u32, length: usize) -> u8;
+    fn yinzhor_present(window: *const u8, len: usize, base: u32, address: u32, count: u32) -> bool;
+    fn yinzhor_decode_adpcm(
+        data: *const u8,
+        data_len: usize,
+        count: usize,
+        coefficients: *const i16,
+        history: *mut i16,
+        history_len: usize,
+        samples: *mut i16,
+        samples_len: usize,
+    ) -> u8;
+}
+
+pub fn current_region(first: u16, second: u16) -> u32 {
+    unsafe { yinzhor_current_region(first, second) }
+}
+
+pub fn read_dsp32(bytes: &[u8], at: usize) -> u32 {
+    assert!(at + 4 <= bytes.len());
+    unsafe { yinzhor_read_dsp32(bytes.as_ptr(), bytes.len(), at) }
+}
+
+pub fn write_dsp32(bytes: &mut [u8], at: usize, value: u32) {
+    assert!(at + 4 <= bytes.len());
+    unsafe { yinzhor_write_dsp32(bytes.as_mut_ptr(), bytes.len(), at, value) }
+}
+
+/// the offsets of configurations, statuses, coefficients, frame counter,
+/// mixer configuration, final samples and intermediate samples.
+pub fn layout_number(first: usize, second: usize, offsets: &[u32; 7]) -> u8 {
+    unsafe { yinzhor_layout_number(first, second, offsets.as_ptr(), offsets.len()) }
+}
+
+pub fn window_number(base: u32, length: usize) -> u8 {
+    unsafe { yinzhor_window_number(base, length) }
+}
+
+pub fn present(window: &[u8], base: u32, address: u32, count: u32) -> bool {
+    assert!(base as u64 + window.len() as u64 <= 1 << 32);
+    unsafe { yinzhor_present(window.as_ptr(), window.len(), base, address, count) }
+}
+
+pub fn decode_adpcm(
+    data: &[u8],
+    count: usize,
+    coefficients: &[i16; 16],
+    history: &mut [i16; 2],
+    samples: &mut [i16],
+) -> u8 {
+    unsafe {
+        yinzhor_decode_adpcm(
+            data.as_ptr(),
+            data.len(),
+            count,
+            coefficients.as_ptr(),
+            history.as_mut_ptr(),
+            history.len(),
+            samples.as_mut_ptr(),
+            samples.len(),
+        )
+    }
+}

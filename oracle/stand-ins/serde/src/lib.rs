@@ -1,0 +1,3 @@
+//! stands in for serde: the two derives, which expand to nothing.
+
+pub use serde_derive::{Deserialize, Serialize};
