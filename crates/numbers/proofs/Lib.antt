@@ -1,4 +1,9 @@
 pub mod Bounds
 pub mod Clamp
+pub mod Forms
+pub mod Literals
+pub mod Modular
+pub mod Patterns
 pub mod Ranges
+pub mod Saturate
 pub mod Wraps

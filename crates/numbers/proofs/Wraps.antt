@@ -1,9 +1,9 @@
 -- What the code that wraps to 32 bits computes: the lower 32 bits are the remainder, and their upper half stands for the negative numbers. Assumes nothing.
 use mathlib.Core.Path.{_≡_, refl, sym, ap, _∙_, subst}
 use mathlib.Core.Bool.{true, false}
-use Prim.Native.Nat.{ℕ, zero, suc, _+_, _-_, _*_, _%_, _^_, _≤_, _<_}
+use Prim.Native.Nat.{ℕ, suc, _-_, _%_, _^_, _≤_, _<_}
 use native.Mathlib.Omega.{arith}
-use lib.IntN.{ℤ, pos, negsuc, natAbs, _+ℤ_, _-ℤ_}
+use lib.IntN.{ℤ, pos, negsuc, natAbs, _-ℤ_}
 use lib.Dec.{T}
 use lib.Signed.{ltZ, nonNeg}
 use lib.Bits.{bitAnd, and-mask}
@@ -12,7 +12,7 @@ use mir.Val.{Fits, SFits, bits, ofZ, toZ}
 use mir.Facts.{toZ-ofZ, toZ-pos}
 use borrow.Author.Tests.{lt-ltb, le-ltb, ltb-true, ltb-false}
 use Rattle.lists.proofs.Bools.{cond-yes, cond-no}
-use Rattle.numbers.specs.Wrap.{modZ, signed32, wrap32}
+use Rattle.numbers.specs.Wrap.{modZ, signed32}
 use Rattle.numbers.proofs.Bounds.{sub-below}
 
 low-mod : (v : ℤ) → SFits w64 v → ofZ w64 v % 4294967296 ≡ modZ v 4294967296
@@ -74,3 +74,18 @@ module _ (x : ℕ) (h : x < 4294967296) where
     where
       turn : 4294967296 - suc x ≡ 4294967295 - x
       turn = omega arith
+
+-- the same at 16 bits
+low-mod16 : (v : ℤ) → SFits w64 v → ofZ w64 v % 65536 ≡ modZ v 65536
+low-mod16 (pos n) h = refl
+low-mod16 (negsuc n) h = turn n (h .sfits)
+  where
+    turn : (n : ℕ) → n < 9223372036854775808 → (18446744073709551616 - suc n) % 65536 ≡ 65536 - suc (n % 65536)
+    turn n h = omega arith
+
+pub low-is16 : (v : ℤ) → SFits w64 v → bitAnd (ofZ w64 v) 65535 ≡ modZ v 65536
+low-is16 v h = and-mask (ofZ w64 v) 16 ∙ low-mod16 v h
+
+-- bits as an unsigned number
+pub bits-fits : (w : Width) (x : ℕ) → x < 4294967296 → x < 2 ^ bits w → T (nonNeg (toZ w64 x)) × Fits w (natAbs (toZ w64 x))
+bits-fits w x h k = subst (λ (z : ℤ). T (nonNeg z) × Fits w (natAbs z)) (sym (small x h)) (tt, record { fits = k })

@@ -1,2 +1,6 @@
+pub mod Bits
+pub mod Casts
+pub mod Literals
+pub mod Tests
 pub mod Within
 pub mod Wrap

@@ -1,2 +1,5 @@
 // Numbers as the DSP has them.
+pub mod bits;
+pub mod casts;
+pub mod tests;
 pub mod whole;

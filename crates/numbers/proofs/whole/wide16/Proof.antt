@@ -1,5 +1,5 @@
 -- `numbers::whole::wide16` meets its contract. Assumes nothing.
-use mir.Syntax.{w16, w64}
+use mir.Syntax.{w64}
 use Rattle.numbers.proofs.Bounds.{is-param, is-read, is-fits}
 use Rattle.numbers.proofs.whole.wide16.Statement.{statement}
 use Rattle.numbers.proofs.whole.wide16.Tie as tie

@@ -1,10 +1,10 @@
 -- `numbers::whole::wrapped` meets its contract. The lower 32 bits are the remainder, and each half of them is read as signed. Assumes nothing.
-use mathlib.Core.Path.{_≡_, sym, ap, _∙_, subst}
+use mathlib.Core.Path.{sym, ap, _∙_, subst}
 use Prim.Native.Nat.{ℕ, _<_}
 use lib.Bits.{bitAnd}
 use mir.Syntax.{w64}
 use mir.Val.{ofZ}
-use Rattle.numbers.specs.Wrap.{modZ, signed32}
+use Rattle.numbers.specs.Wrap.{signed32}
 use Rattle.numbers.proofs.Wraps.{low-is, mod-lt, below-half, above-half, low-fits, low-value, high-fits64, high-fits32, high-value}
 use Rattle.numbers.proofs.whole.wrapped.Statement.{statement}
 use Rattle.numbers.proofs.whole.wrapped.Tie as tie
