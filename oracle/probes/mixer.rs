@@ -12,4 +12,10 @@ impl Mixer {
     pub fn probe_state(&self) -> ([f32; 3], [bool; 2], bool) {
         (self.volume, self.aux, self.output == Output::Mono)
     }
+
+    /// kept out of line, so that its cost can be measured by name.
+    #[inline(never)]
+    pub fn probe_tick(&mut self, memory: &mut Memory, layout: Layout, read: u32, mixes: [QuadFrame; 3]) -> Frame {
+        self.tick(memory, layout, read, mixes)
+    }
 }

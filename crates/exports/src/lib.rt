@@ -1,26 +1,19 @@
-// The port's functions under C names, for the comparisons with the Rust. Test only: each takes plain numbers and slices and calls the function
-// that it is named after.
+// The port's functions under C names, for the comparisons with the Rust. Test only: each takes plain numbers and slices, calls the function
+// that it is named after, and promises nothing of its own.
 ghost use mathlib.Core.Path.{_≡_};
-ghost use Prim.Native.Nat.{_+_, _≤_};
+ghost use Prim.Native.Nat.{_+_, _≤_, _<_};
 ghost use lib.ListN.{length};
-ghost use Rattle.memory.specs.Choice.{chosen};
-ghost use Rattle.memory.specs.Little.{atDsp32, dsp32Bytes};
-ghost use Rattle.memory.specs.Window.{windowNumber, presentIn};
-ghost use Rattle.lists.specs.Splice.{splice};
 use adpcm::History;
 use memory::layout::Layout;
 
 #[no_mangle]
-pub extern "C" fn yinzhor_current_region(first: u16, second: u16) -> u32
-    ensures { λ r. ⌜ r ≡ chosen first second ⌝ }
-{
+pub extern "C" fn yinzhor_current_region(first: u16, second: u16) -> u32 {
     memory::region::current_region(first, second)
 }
 
 #[no_mangle]
 pub extern "C" fn yinzhor_read_dsp32(bytes: &[u8], at: usize) -> u32
     requires { ⌜ at + 4 ≤ length (now bytes) ⌝ }
-    ensures { λ r. ⌜ r ≡ atDsp32 (now (bytes .entry)) at ⌝ }
 {
     memory::little::read_dsp32(bytes, at)
 }
@@ -28,7 +21,6 @@ pub extern "C" fn yinzhor_read_dsp32(bytes: &[u8], at: usize) -> u32
 #[no_mangle]
 pub extern "C" fn yinzhor_write_dsp32(bytes: &mut [u8], at: usize, value: u32)
     requires { ⌜ at + 4 ≤ length (now bytes) ⌝ }
-    ensures { λ _. ⌜ now (bytes .exit) ≡ splice (now (bytes .entry)) at (dsp32Bytes value) ⌝ }
 {
     memory::little::write_dsp32(bytes, at, value);
 }
@@ -50,16 +42,12 @@ pub extern "C" fn yinzhor_layout_number(first: usize, second: usize, offsets: &[
 }
 
 #[no_mangle]
-pub extern "C" fn yinzhor_window_number(base: u32, length: usize) -> u8
-    ensures { λ r. ⌜ r ≡ windowNumber base length ⌝ }
-{
+pub extern "C" fn yinzhor_window_number(base: u32, length: usize) -> u8 {
     memory::window::window_number(base, length)
 }
 
 #[no_mangle]
-pub extern "C" fn yinzhor_present(window: &[u8], base: u32, address: u32, count: u32) -> bool
-    ensures { λ r. ⌜ r ≡ presentIn (length (now (window .entry))) base address count ⌝ }
-{
+pub extern "C" fn yinzhor_present(window: &[u8], base: u32, address: u32, count: u32) -> bool {
     memory::window::present(window, base, address, count)
 }
 
@@ -84,4 +72,66 @@ pub extern "C" fn yinzhor_decode_adpcm(
     history[0] = yn1;
     history[1] = yn2;
     decoded.number
+}
+
+#[no_mangle]
+pub extern "C" fn yinzhor_cast_i32(x: f32) -> i32 {
+    numbers::casts::cast_i32(x)
+}
+
+#[no_mangle]
+pub extern "C" fn yinzhor_cast_i16(x: f64) -> i16 {
+    numbers::casts::cast_i16(x)
+}
+
+#[no_mangle]
+pub extern "C" fn yinzhor_cast_u32(x: f64) -> u32 {
+    numbers::casts::cast_u32(x)
+}
+
+#[no_mangle]
+pub extern "C" fn yinzhor_single_of_i32(n: i32) -> f32 {
+    numbers::casts::single_of_i32(n)
+}
+
+#[no_mangle]
+pub extern "C" fn yinzhor_gain_of(bits: u32) -> f32 {
+    numbers::bits::gain_of(bits)
+}
+
+#[no_mangle]
+pub extern "C" fn yinzhor_rate_of(bits: u32) -> f64 {
+    numbers::bits::rate_of(bits)
+}
+
+#[no_mangle]
+pub extern "C" fn yinzhor_is_finite(x: f32) -> bool {
+    numbers::tests::is_finite(x)
+}
+
+#[no_mangle]
+pub extern "C" fn yinzhor_is_rate(x: f64) -> bool {
+    numbers::tests::is_rate(x)
+}
+
+#[no_mangle]
+pub extern "C" fn yinzhor_is_fraction(x: f64) -> bool {
+    numbers::tests::is_fraction(x)
+}
+
+#[no_mangle]
+pub extern "C" fn yinzhor_at_gain(gain: f32, sample: i16) -> i32 {
+    mixing::gain::at_gain(gain, sample)
+}
+
+#[no_mangle]
+pub extern "C" fn yinzhor_fading(from: f32, to: f32, i: usize, sample: i16) -> i32
+    requires { ⌜ i < 160 ⌝ }
+{
+    mixing::gain::fading(from, to, i, sample)
+}
+
+#[no_mangle]
+pub extern "C" fn yinzhor_interpolate(a: i16, b: i16, fraction: f64) -> i16 {
+    mixing::interpolate::interpolate(a, b, fraction)
 }

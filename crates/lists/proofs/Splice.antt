@@ -85,6 +85,18 @@ module _ {A : Type 0} where
   unfolding splice
   other-splice a n i new l h = other-sets a n i new l h
 
+  -- two texts put one after the other: one splice of both
+  pub splice-append : (l : List A) (a : ℕ) (xs ys : List A) → splice l a (xs ++ ys) ≡ splice (splice l a xs) (a + length xs) ys
+  unfolding splice
+  splice-append l a [] ys = ap (λ (n : ℕ). sets l n ys) z
+    where
+      z : a ≡ a + 0
+      z = omega arith
+  splice-append l a (x ∷ xs) ys = splice-append (set l a x) (suc a) xs ys ∙ ap (λ (n : ℕ). sets (sets (set l a x) (suc a) xs) n ys) z
+    where
+      z : suc a + length xs ≡ a + suc (length xs)
+      z = omega arith
+
   -- ---- splices within the list
 
   pub splice-is : (l : List A) (a : ℕ) (new : List A) → a + length new ≤ length l → splice l a new ≡ take a l ++ (new ++ drop (a + length new) l)

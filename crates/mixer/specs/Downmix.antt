@@ -1,9 +1,16 @@
--- One value of the final samples, in f32: "every multiply, add and divide rounds once, in the source's order", then the program's own cast.
+-- The final samples, in f32: "every multiply, add and divide rounds once, in the source's order", then the program's own cast.
 -- Assumes nothing: these are definitions.
+use Prim.Native.Nat.{ℕ, _+_, _/_, _%_}
+use mathlib.Core.List.{List}
 use lib.IntN.{ℤ, pos, _+ℤ_}
+use lib.ListN.{getD}
 use lib.Ieee.{Float, binary32, add, mul, div}
 use Rattle.numbers.specs.Casts.{cast-i32, single}
 use Rattle.numbers.specs.Wrap.{clamp16}
+use Rattle.lists.specs.Tabulate.{tabulate}
+use Rattle.mixer.specs.Mixes.{valueAt}
+use Rattle.mixer.specs.declared.state.Output.{Output}
+use Rattle.mixer.specs.declared.state.Output.the-variants.{Mono, Stereo}
 
 -- a mix value at its mix's volume
 abbrev pub at-volume : Float → ℤ → Float
@@ -27,3 +34,15 @@ stereo-part v a c = clamp16 (cast-i32 (side v a c))
 -- "added in turn, clamped after each"
 unfoldable pub added : ℤ → ℤ → ℤ
 added out part = clamp16 (out +ℤ part)
+
+-- ---- a frame: 160 pairs flat, value k the sample k / 2 of the left side where k is even, of the right where it is odd
+
+-- what a mix adds to value k: mono takes all four channels, the left side of stereo channels 0 and 2, the right 1 and 3
+abbrev pub partAt : Output → Float → List ℤ → ℕ → ℤ
+partAt Mono volume mix k =
+    mono-part volume (valueAt mix 0 (k / 2)) (valueAt mix 1 (k / 2)) (valueAt mix 2 (k / 2)) (valueAt mix 3 (k / 2))
+partAt Stereo volume mix k = stereo-part volume (valueAt mix (k % 2) (k / 2)) (valueAt mix (k % 2 + 2) (k / 2))
+
+-- a frame with a mix's part added to each value
+unfoldable pub downmixed : Output → Float → List ℤ → List ℤ → List ℤ
+downmixed output volume mix frame = tabulate (λ k. added (getD frame k (pos 0)) (partAt output volume mix k)) 320

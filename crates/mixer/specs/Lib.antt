@@ -1,1 +1,4 @@
+pub mod Configuration
 pub mod Downmix
+pub mod Mixes
+pub mod Tick

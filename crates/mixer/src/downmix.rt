@@ -1,9 +1,12 @@
-// One value of the final samples: the part of each mix, clamped, is added in turn and clamped again.
+// The final samples: the part of each mix, clamped, is added in turn and clamped again.
+use crate::state::Output;
 use numbers::casts::cast_i32;
 use numbers::casts::single_of_i32;
 use numbers::whole::clamped;
 ghost use mathlib.Core.Path.{_≡_};
-ghost use Rattle.mixer.specs.Downmix.{at-volume, mono-part, stereo-part, added};
+ghost use Prim.Native.Nat.{_+_, _*_, _<_};
+ghost use lib.ListN.{length};
+ghost use Rattle.mixer.specs.Downmix.{at-volume, mono-part, stereo-part, added, partAt, downmixed};
 
 // A mix value at its mix's volume.
 fn at_volume(volume: f32, value: i32) -> f32
@@ -35,4 +38,50 @@ pub fn added(out: i16, part: i16) -> i16
     ensures { λ r. ⌜ r ≡ added out part ⌝ }
 {
     clamped((out as i32) + (part as i32))
+}
+
+// What a mix adds to the two sides of a sample.
+struct Parts {
+    left: i16,
+    right: i16,
+}
+
+fn parts_of(output: Output, volume: f32, mix: &[i32], i: usize) -> Parts
+    requires { ⌜ (length (now mix) ≡ 640) × (i < 160) ⌝ }
+    ensures { λ r. ⌜ (r .left ≡ partAt output volume (now (mix .entry)) (i * 2)) × (r .right ≡ partAt output volume (now (mix .entry)) (i * 2 + 1)) ⌝ }
+{
+    let a = mix[i];
+    let b = mix[160 + i];
+    let c = mix[320 + i];
+    let d = mix[480 + i];
+    match output {
+        Output::Mono => {
+            let part = mono_part(volume, a, b, c, d);
+            Parts {
+                left: part,
+                right: part,
+            }
+        }
+        Output::Stereo => Parts {
+            left: stereo_part(volume, a, c),
+            right: stereo_part(volume, b, d),
+        },
+    }
+}
+
+// Adds a mix to the frame at a volume.
+pub fn downmix(frame: &mut [i16], mix: &[i32], volume: f32, output: Output)
+    requires { ⌜ (length (now frame) ≡ 320) × (length (now mix) ≡ 640) ⌝ }
+    ensures { λ _. ⌜ now (frame .exit) ≡ downmixed output volume (now (mix .entry)) (now (frame .entry)) ⌝ }
+{
+    let mut i = 0;
+    while i < 160 {
+        let s = parts_of(output, volume, mix, i);
+        let k = i * 2;
+        let left = added(frame[k], s.left);
+        frame[k] = left;
+        let right = added(frame[k + 1], s.right);
+        frame[k + 1] = right;
+        i += 1;
+    }
 }

@@ -1,2 +1,6 @@
-// The mixes of a frame made into its final samples.
+// Module 7, the final mixer: the three mixes of a frame made into what the speakers play.
+pub mod configuration;
 pub mod downmix;
+pub mod mixes;
+pub mod state;
+pub mod tick;

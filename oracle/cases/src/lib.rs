@@ -1,9 +1,13 @@
 //! inputs for the oracle and the port, the same from the same seed.
 
 mod adpcm;
+pub mod floats;
+pub mod layout;
+mod mixing;
 mod random;
 
 pub use adpcm::{Decode, EXTREMES, bytes_of};
+pub use mixing::{Mixed, Mixing};
 pub use random::Random;
 
 /// frame counters about which the choice of a region turns.
@@ -12,3 +16,6 @@ pub const COUNTERS: [u16; 11] = [0, 1, 2, 0x7FFE, 0x7FFF, 0x8000, 0x8001, 0xFFFC
 /// 32-bit values about which the halves of a dsp32 turn.
 pub const WORDS: [u32; 12] =
     [0, 1, 0xFF, 0xFFFF, 0x1_0000, 0x1_FFFF, 0x7FFF_FFFF, 0x8000_0000, 0xFFFF_0000, 0xFFFF_FFFE, 0xFFFF_FFFF, 74565];
+
+/// samples about which products and interpolation turn.
+pub const SAMPLES: [i16; 9] = [-32768, -32767, -3, -1, 0, 1, 100, 32766, 32767];

@@ -18,7 +18,7 @@ pub fn compare(random: &mut Random, count: usize) -> Result<u64, String> {
         let value = random.word() as u32;
         one(random, length, at, value)?;
     }
-    Ok((WORDS.len() * 13 + count) as u64)
+    Ok(3 * (WORDS.len() * 13 + count) as u64)
 }
 
 /// reads what stands there, writes the value and reads it back.

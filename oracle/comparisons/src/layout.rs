@@ -2,16 +2,12 @@
 //! table. the source has no part in them.
 
 use cases::Random;
+use cases::layout::{self, LONGEST, ORDER, SIZES, packed};
 
 use crate::{port, same};
 
-/// configurations, statuses, coefficients, frame counter, mixer
-/// configuration, final samples, intermediate samples.
-const SIZES: [u32; 7] = [4608, 288, 768, 2, 44, 640, 5120];
-const LONGEST: usize = 65_536;
-
 /// the lowest number that applies, or 0.
-fn number(first: usize, second: usize, offsets: &[u32; 7]) -> u8 {
+pub fn number(first: usize, second: usize, offsets: &[u32; 7]) -> u8 {
     if first != second || first > LONGEST {
         return 1;
     }
@@ -39,7 +35,7 @@ pub fn compare(random: &mut Random, count: usize) -> Result<u64, String> {
         Ok(())
     };
 
-    let (packed, end) = packed([0, 1, 2, 3, 4, 5, 6], [0; 7]);
+    let (packed, end) = packed(ORDER, [0; 7]);
     let end = end as usize;
     let lengths = [0, 1, 2, end - 1, end, end + 1, LONGEST - 1, LONGEST, LONGEST + 1, 1 << 32, usize::MAX];
     for first in lengths {
@@ -78,13 +74,7 @@ pub fn compare(random: &mut Random, count: usize) -> Result<u64, String> {
     }
 
     for _ in 0..count {
-        let mut order = [0, 1, 2, 3, 4, 5, 6];
-        for i in 1..7 {
-            order.swap(i, random.below(i + 1));
-        }
-        // few and small gaps, so that places touch
-        let gaps = std::array::from_fn(|_| random.pick(&[0, 0, 0, 1, 2, 100, 5000]));
-        let (mut offsets, end) = self::packed(order, gaps);
+        let (mut offsets, end) = layout::random(random);
         let mut first = end as usize + random.pick(&[0, 0, 1, 100]);
         let mut second = first;
         match random.below(8) {
@@ -106,16 +96,4 @@ pub fn compare(random: &mut Random, count: usize) -> Result<u64, String> {
         return Err(format!("a number was never met: {met:?}"));
     }
     Ok(compared)
-}
-
-/// places one after the other in an order, each after its gap, and where
-/// they end.
-fn packed(order: [usize; 7], gaps: [u32; 7]) -> ([u32; 7], u32) {
-    let mut offsets = [0; 7];
-    let mut end = 0;
-    for (place, gap) in order.into_iter().zip(gaps) {
-        offsets[place] = end + gap;
-        end += gap + SIZES[place];
-    }
-    (offsets, end)
 }

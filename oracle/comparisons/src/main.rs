@@ -1,12 +1,15 @@
 //! holds the port against the oracle.
-//!   compare SEED COUNT [NAME..]    runs the comparisons, all or those named
-//!   compare decode                 decodes recorded inputs with the port
-//!   compare measure source|port    decodes a fixed input, to be timed
+//!   compare SEED COUNT [NAME..]         runs the comparisons, all or those named
+//!   compare --quick                     the same, a few seconds of each
+//!   compare decode                      decodes recorded inputs with the port
+//!   compare measure WHAT source|port    runs WHAT on a fixed input, to be timed
 
+mod casts;
 mod decode;
 mod dsp32;
 mod layout;
 mod measure;
+mod mixer;
 mod port;
 mod region;
 mod stream;
@@ -14,19 +17,23 @@ mod window;
 
 use std::env;
 use std::process::ExitCode;
+use std::str::FromStr;
 
 use cases::Random;
 
 /// takes how many random inputs to add to the fixed ones. gives how many
-/// were compared in all, or the first that differs.
+/// calls of the port were compared in all, or the first that differs.
 type Comparison = fn(&mut Random, usize) -> Result<u64, String>;
 
-const COMPARISONS: [(&str, Comparison); 5] = [
-    ("region", region::compare),
-    ("dsp32", dsp32::compare),
-    ("window", window::compare),
-    ("layout", layout::compare),
-    ("decode", decode::compare),
+/// each with how many random inputs are few.
+const COMPARISONS: [(&str, Comparison, usize); 7] = [
+    ("region", region::compare, 100_000),
+    ("dsp32", dsp32::compare, 100_000),
+    ("window", window::compare, 100_000),
+    ("layout", layout::compare, 100_000),
+    ("decode", decode::compare, 100_000),
+    ("casts", casts::compare, 1_000_000),
+    ("mixer", mixer::compare, 20_000),
 ];
 
 /// the oracle's answer and the port's are the same, or the input is told.
@@ -45,8 +52,9 @@ fn main() -> ExitCode {
     let words: Vec<&str> = words.iter().map(String::as_str).collect();
     let run = match words[..] {
         ["decode"] => stream::decode(),
-        ["measure", side] => measure::run(side),
-        [seed, count, ref names @ ..] => compare(seed, count, names),
+        ["measure", what, side] => measure::run(what, side),
+        ["--quick"] => compare(1, None, &[]),
+        [seed, count, ref names @ ..] => number(seed).and_then(|seed| compare(seed, Some(number(count)?), names)),
         _ => Err("compare SEED COUNT [NAME..]".into()),
     };
     match run {
@@ -58,18 +66,20 @@ fn main() -> ExitCode {
     }
 }
 
-fn compare(seed: &str, count: &str, names: &[&str]) -> Result<(), String> {
-    let seed = seed.parse().map_err(|_| format!("not a seed: {seed}"))?;
-    let count = count.parse().map_err(|_| format!("not a count: {count}"))?;
+fn number<T: FromStr>(word: &str) -> Result<T, String> {
+    word.parse().map_err(|_| format!("not a number: {word}"))
+}
+
+fn compare(seed: u64, count: Option<usize>, names: &[&str]) -> Result<(), String> {
     for name in names {
-        if COMPARISONS.iter().all(|(known, _)| known != name) {
+        if COMPARISONS.iter().all(|(known, ..)| known != name) {
             return Err(format!("no comparison is named {name}"));
         }
     }
-    for (name, compare) in COMPARISONS {
+    for (name, compare, few) in COMPARISONS {
         if names.is_empty() || names.contains(&name) {
-            match compare(&mut Random::new(seed), count) {
-                Ok(compared) => println!("{name}: {compared} inputs compared, no difference"),
+            match compare(&mut Random::new(seed), count.unwrap_or(few)) {
+                Ok(calls) => println!("{name}: {calls} calls compared, no difference"),
                 Err(input) => return Err(format!("{name}: DIFFERENT at\n{input}")),
             }
         }

@@ -1,18 +1,35 @@
-//! the decoder of the source or of the port alone, on the same input.
+//! the decoder or the mixer of the source or of the port alone, on the same
+//! input.
 
 use std::hint::black_box;
-use std::time::Instant;
+use std::time::{Duration, Instant};
 
-use cases::{Decode, Random};
+use cases::{Decode, Mixing, Random};
 use zakuro_core::services::dsp_voices::probe_decode;
 
 use crate::port;
 
-const COUNT: usize = 65_536;
-const TIMES: usize = 100;
+/// prints how many samples were decoded or frames mixed, and how many
+/// nanoseconds it took.
+pub fn run(what: &str, side: &str) -> Result<(), String> {
+    let port = match side {
+        "source" => false,
+        "port" => true,
+        _ => return Err(format!("neither source nor port: {side}")),
+    };
+    let (many, time) = match what {
+        "decode" => decode(port),
+        "mix" => mix(port, [1.0, 0.5, 0.25], true),
+        "mix-no-aux" => mix(port, [1.0, 0.0, 0.0], false),
+        _ => return Err(format!("not measured: {what}")),
+    };
+    println!("{many} {}", time.as_nanos());
+    Ok(())
+}
 
-/// prints how many samples were decoded and how many nanoseconds it took.
-pub fn run(side: &str) -> Result<(), String> {
+fn decode(port: bool) -> (usize, Duration) {
+    const COUNT: usize = 65_536;
+    const TIMES: usize = 100;
     let mut random = Random::new(1);
     let data = Decode::random(&mut random, COUNT).data;
     // as an encoder makes them
@@ -21,13 +38,39 @@ pub fn run(side: &str) -> Result<(), String> {
     let mut samples = vec![0; COUNT];
     let start = Instant::now();
     for _ in 0..TIMES {
-        match side {
-            "source" => probe_decode(&data, COUNT, &coefficients, &mut history, &mut samples),
-            "port" => assert_eq!(port::decode_adpcm(&data, COUNT, &coefficients, &mut history, &mut samples), 0),
-            _ => return Err(format!("neither source nor port: {side}")),
+        if port {
+            assert_eq!(port::decode_adpcm(&data, COUNT, &coefficients, &mut history, &mut samples), 0);
+        } else {
+            probe_decode(&data, COUNT, &coefficients, &mut history, &mut samples);
         }
         black_box(&samples);
     }
-    println!("{} {}", COUNT * TIMES, start.elapsed().as_nanos());
-    Ok(())
+    (COUNT * TIMES, start.elapsed())
+}
+
+/// stereo, nothing new in the configuration, values of 16 bits. the source
+/// takes the mixes by value: that copy is in its time, not its instructions.
+fn mix(port: bool, volume: [f32; 3], aux: bool) -> (usize, Duration) {
+    const TIMES: usize = 5000;
+    let mut random = Random::new(1);
+    let mut case = Mixing::packed(0, 0);
+    case.volume = volume;
+    case.switches = [aux, aux, false];
+    let mut value = || random.word() as i16 as i32;
+    case.mixes.as_flattened_mut().as_flattened_mut().fill_with(&mut value);
+    for word in case.intermediate().as_chunks_mut().0 {
+        *word = value().to_le_bytes();
+    }
+    let (mut mixer, mut memory, mut mixed) = (case.mixer(), case.memory.clone(), case.refused());
+    let start = Instant::now();
+    for _ in 0..TIMES {
+        if port {
+            let mixes = case.mixes.as_flattened().as_flattened();
+            assert_eq!(port::mixer_tick(&case.offsets, case.read, mixes, &mut mixed), 0);
+            black_box(&mixed);
+        } else {
+            black_box(mixer.probe_tick(&mut memory, case.layout(), case.read, case.mixes));
+        }
+    }
+    (TIMES, start.elapsed())
 }

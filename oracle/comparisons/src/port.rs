@@ -1,5 +1,8 @@
 //! the port's exported functions. every slice is declared flat, as a pointer
-//! and a count; each wrapper tests what its function requires.
+//! and a count; each wrapper tests what its function requires. those on
+//! numbers alone are called as they are.
+
+use cases::Mixed;
 
 unsafe extern "C" {
     fn yinzhor_current_region(first: u16, second: u16) -> u32;
@@ -17,6 +20,37 @@ unsafe extern "C" {
         history_len: usize,
         samples: *mut i16,
         samples_len: usize,
+    ) -> u8;
+
+    pub safe fn yinzhor_cast_i32(x: f32) -> i32;
+    pub safe fn yinzhor_cast_i16(x: f64) -> i16;
+    pub safe fn yinzhor_cast_u32(x: f64) -> u32;
+    pub safe fn yinzhor_single_of_i32(n: i32) -> f32;
+    pub safe fn yinzhor_gain_of(bits: u32) -> f32;
+    pub safe fn yinzhor_rate_of(bits: u32) -> f64;
+    pub safe fn yinzhor_is_finite(x: f32) -> bool;
+    pub safe fn yinzhor_is_rate(x: f64) -> bool;
+    pub safe fn yinzhor_is_fraction(x: f64) -> bool;
+    pub safe fn yinzhor_at_gain(gain: f32, sample: i16) -> i32;
+    pub safe fn yinzhor_interpolate(a: i16, b: i16, fraction: f64) -> i16;
+    fn yinzhor_fading(from: f32, to: f32, i: usize, sample: i16) -> i32;
+
+    fn yinzhor_mixer_tick(
+        first: *mut u8,
+        first_len: usize,
+        second: *mut u8,
+        second_len: usize,
+        offsets: *const u32,
+        offsets_len: usize,
+        read: u32,
+        mixes: *const i32,
+        mixes_len: usize,
+        volume: *mut f32,
+        volume_len: usize,
+        switches: *mut u8,
+        switches_len: usize,
+        frame: *mut i16,
+        frame_len: usize,
     ) -> u8;
 }
 
@@ -66,6 +100,36 @@ pub fn decode_adpcm(
             history.len(),
             samples.as_mut_ptr(),
             samples.len(),
+        )
+    }
+}
+
+pub fn fading(from: f32, to: f32, i: usize, sample: i16) -> i32 {
+    assert!(i < 160);
+    unsafe { yinzhor_fading(from, to, i, sample) }
+}
+
+/// mixes in place: state and regions are taken from `mixed` and left there,
+/// and the frame with them.
+pub fn mixer_tick(offsets: &[u32; 7], read: u32, mixes: &[i32], mixed: &mut Mixed) -> u8 {
+    let Mixed { volume, switches, frame, regions: [first, second] } = mixed;
+    unsafe {
+        yinzhor_mixer_tick(
+            first.as_mut_ptr(),
+            first.len(),
+            second.as_mut_ptr(),
+            second.len(),
+            offsets.as_ptr(),
+            offsets.len(),
+            read,
+            mixes.as_ptr(),
+            mixes.len(),
+            volume.as_mut_ptr(),
+            volume.len(),
+            switches.as_mut_ptr(),
+            switches.len(),
+            frame.as_mut_ptr(),
+            frame.len(),
         )
     }
 }

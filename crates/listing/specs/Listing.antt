@@ -1,0 +1,79 @@
+-- The decode listing program of document 01: what it prints for an input. Assumes nothing: these are definitions.
+use Prim.Native.Nat.{ℕ, zero, suc, _+_, _*_}
+use mathlib.Core.Bool.{Bool, cond}
+use mathlib.Core.List.{List, [], _∷_, _++_}
+use lib.Dec.{eqb}
+use lib.IntN.{ℤ}
+use lib.ListN.{length, drop}
+use Rattle.numbers.specs.Wrap.{signed16}
+use Rattle.memory.specs.Little.{at16}
+use Rattle.adpcm.specs.Code.{framesOf, decodedSamples, decodedHistory}
+use Rattle.adpcm.specs.Adpcm.{sampleOf}
+use Rattle.adpcm.specs.declared.History.{History}
+use Rattle.listing.specs.Text.{decimal, signedDecimal, column, line}
+
+-- ---- the input: "16 coefficients, yn1, yn2, count (all 16 bits, little-endian, count unsigned), then the frames"
+
+-- so many signed numbers of 16 bits
+abbrev pub signedsIn : ℕ → List ℕ → List ℤ
+signedsIn zero bytes = []
+signedsIn (suc n) bytes = signed16 (at16 bytes 0) ∷ signedsIn n (drop 2 bytes)
+
+-- the 16 coefficients
+unfoldable pub coefficientsIn : List ℕ → List ℤ
+coefficientsIn input = signedsIn 16 input
+
+-- yn1 and yn2, the history to go on from
+abbrev pub historyIn : List ℕ → History
+historyIn input = record { yn1 = signed16 (at16 input 32); yn2 = signed16 (at16 input 34) }
+
+-- the count, unsigned
+abbrev pub countIn : List ℕ → ℕ
+countIn input = at16 input 36
+
+-- the frames, all that follows
+abbrev pub framesIn : List ℕ → List ℕ
+framesIn input = drop 38 input
+
+-- no bytes are missing or left over: an input that ends before its frames is never complete
+abbrev pub complete : List ℕ → Bool
+complete input = eqb (length input) (38 + framesOf (countIn input) * 8)
+
+-- the samples that the frames hold
+unfoldable pub samplesIn : List ℕ → List ℤ
+samplesIn input = decodedSamples sampleOf (coefficientsIn input) (historyIn input) (framesIn input) (countIn input)
+
+-- the history after the last of them
+unfoldable pub lastHistoryIn : List ℕ → History
+lastHistoryIn input = decodedHistory sampleOf (coefficientsIn input) (historyIn input) (framesIn input) (countIn input)
+
+-- ---- the output
+
+-- the headings "sample" and "value"
+abbrev pub samplesHeading : List ℕ
+samplesHeading = line (column (115 ∷ 97 ∷ 109 ∷ 112 ∷ 108 ∷ 101 ∷ [])) (column (118 ∷ 97 ∷ 108 ∷ 117 ∷ 101 ∷ []))
+
+-- the headings "yn1" and "yn2"
+abbrev pub historyHeading : List ℕ
+historyHeading = line (column (121 ∷ 110 ∷ 49 ∷ [])) (column (121 ∷ 110 ∷ 50 ∷ []))
+
+-- "sample index and value", a line for each sample, from an index on
+abbrev pub rows : ℕ → List ℤ → List ℕ
+rows index [] = []
+rows index (y ∷ samples) = line (column (decimal index)) (column (signedDecimal y)) ++ rows (index + 1) samples
+
+-- the history, the newer sample first
+abbrev pub historyRow : History → List ℕ
+historyRow h = line (column (signedDecimal (h .yn1))) (column (signedDecimal (h .yn2)))
+
+-- "Samples and history each stand under a line of headings"
+abbrev pub tables : List ℤ → History → List ℕ
+tables samples h = samplesHeading ++ (rows 0 samples ++ (historyHeading ++ historyRow h))
+
+-- "9 in one column"
+abbrev pub onlyNine : List ℕ
+onlyNine = column (decimal 9) ++ (10 ∷ [])
+
+-- what the program prints for an input: "If bytes are missing or left over it prints only 9"
+unfoldable pub listed : List ℕ → List ℕ
+listed input = cond (complete input) (tables (samplesIn input) (lastHistoryIn input)) onlyNine

@@ -1,0 +1,56 @@
+// The input's header.
+ghost use mathlib.Core.Path.{_≡_};
+ghost use Prim.Native.Nat.{_+_, _*_, _≤_, _<_};
+ghost use lib.ListN.{length};
+ghost use Rattle.numbers.specs.Wrap.{signed16};
+ghost use Rattle.memory.specs.Little.{at16};
+ghost use Rattle.listing.specs.Listing.{coefficientsIn, historyIn, countIn};
+use adpcm::History;
+
+// The signed number at a place.
+fn signed_at(bytes: &[u8], at: usize) -> i16
+    requires { ⌜ at + 2 ≤ length (now bytes) ⌝ }
+    ensures { λ r. ⌜ r ≡ signed16 (at16 (now (bytes .entry)) at) ⌝ }
+{
+    numbers::whole::to_signed16(memory::little::read16(bytes, at))
+}
+
+// The 16 coefficients.
+pub fn coefficients(bytes: &[u8]) -> [i16; 16]
+    requires { ⌜ 38 ≤ length (now bytes) ⌝ }
+    ensures { λ r. ⌜ r ≡ coefficientsIn (now (bytes .entry)) ⌝ }
+{
+    let mut values = [0i16; 16];
+    let mut i = 0;
+    while i < 16 {
+        values[i] = signed_at(bytes, i * 2);
+        i += 1;
+    }
+    values
+}
+
+// The history to go on from.
+pub fn history(bytes: &[u8]) -> History
+    requires { ⌜ 38 ≤ length (now bytes) ⌝ }
+    ensures { λ r. ⌜ r ≡ historyIn (now (bytes .entry)) ⌝ }
+{
+    History {
+        yn1: signed_at(bytes, 32),
+        yn2: signed_at(bytes, 34),
+    }
+}
+
+// A 16-bit number as a count, with its bound.
+fn wide(x: u16) -> usize
+    ensures { λ r. ⌜ (r ≡ x) × (r < 65536) ⌝ }
+{
+    x as usize
+}
+
+// How many samples the frames hold.
+pub fn count(bytes: &[u8]) -> usize
+    requires { ⌜ 38 ≤ length (now bytes) ⌝ }
+    ensures { λ r. ⌜ (r ≡ countIn (now (bytes .entry))) × (r < 65536) ⌝ }
+{
+    wide(memory::little::read16(bytes, 36))
+}

@@ -1,0 +1,49 @@
+-- The mixer's configuration: what its 44 bytes say of the state. Assumes nothing: these are definitions.
+use Prim.Native.Nat.{ℕ, _+_}
+use mathlib.Core.Bool.{Bool, false, not, cond}
+use mathlib.Core.List.{List, [], _∷_}
+use lib.Dec.{eqb}
+use lib.Ieee.{Float}
+use lib.ListN.{getD}
+use Rattle.numbers.specs.Literals.{+0}
+use Rattle.numbers.specs.Bits.{gain}
+use Rattle.memory.specs.Little.{at16, at32}
+use Rattle.memory.specs.Flags.{flagged}
+use Rattle.memory.specs.Fields.{offsetOf, mixerConfiguration}
+use Rattle.mixer.specs.declared.state.Mixer.{Mixer}
+use Rattle.mixer.specs.declared.state.Output.{Output}
+use Rattle.mixer.specs.declared.state.Output.the-variants.{Mono, Stereo}
+
+-- the dirty word, which says what the title changed
+abbrev pub dirtyIn : List ℕ → ℕ
+dirtyIn bytes = at32 bytes (offsetOf mixerConfiguration "DIRTY")
+
+-- an output word of 0 is mono; surround comes out as stereo
+abbrev pub outputOf : List ℕ → Output
+outputOf bytes = cond (eqb (at16 bytes (offsetOf mixerConfiguration "OUTPUT_FORMAT")) 0) Mono Stereo
+
+module _ (bytes : List ℕ) (m : Mixer) where
+  -- volume k, read at a place where its bit of the dirty word is set, else kept; as of a gain, one that is not finite is 0.0
+  abbrev volumeBy : ℕ → ℕ → ℕ → Float
+  volumeBy k bit at = cond (flagged (dirtyIn bytes) bit) (gain (at32 bytes at)) (getD (m .volume) k +0)
+
+  -- the switch of aux bus k likewise: any word but 0 is on
+  abbrev auxBy : ℕ → ℕ → ℕ → Bool
+  auxBy k bit at = cond (flagged (dirtyIn bytes) bit) (not (eqb (at16 bytes at) 0)) (getD (m .aux) k false)
+
+  -- the state that the bytes leave: "a dirty word of zero does nothing", else each field whose bit is set is read
+  unfoldable pub configured : Mixer
+  configured =
+      cond (eqb (dirtyIn bytes) 0) m
+      (record {
+        volume =
+            volumeBy 0 0x1_0000 (offsetOf mixerConfiguration "MASTER_VOLUME")
+            ∷ volumeBy 1 0x100_0000 (offsetOf mixerConfiguration "AUX_RETURN_VOLUME")
+            ∷ volumeBy 2 0x200_0000 (offsetOf mixerConfiguration "AUX_RETURN_VOLUME" + 4)
+            ∷ [];
+        aux =
+            auxBy 0 0x100 (offsetOf mixerConfiguration "AUX_BUS_ENABLE")
+            ∷ auxBy 1 0x200 (offsetOf mixerConfiguration "AUX_BUS_ENABLE" + 2)
+            ∷ [];
+        output = cond (flagged (dirtyIn bytes) 0x400_0000) (outputOf bytes) (m .output);
+      })

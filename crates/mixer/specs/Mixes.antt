@@ -1,0 +1,35 @@
+-- The mixes of a frame, "by mix, then channel, then sample", and how mixes and final samples stand in bytes. Assumes nothing: these are definitions.
+use Prim.Native.Nat.{ℕ, _+_, _*_}
+use mathlib.Core.List.{List, flatMap}
+use lib.IntN.{ℤ, pos}
+use lib.ListN.{getD}
+use Rattle.lists.specs.Splice.{part}
+use Rattle.lists.specs.Tabulate.{tabulate}
+use Rattle.numbers.specs.Wrap.{modZ, signed32}
+use Rattle.memory.specs.Little.{at32, bytes16, bytes32}
+
+-- mix k of the three: 4 channels of 160 values
+abbrev pub mixOf : ℕ → List ℤ → List ℤ
+mixOf k mixes = part (k * 640) 640 mixes
+
+-- the value of a sample in a channel of a mix
+abbrev pub valueAt : List ℤ → ℕ → ℕ → ℤ
+valueAt mix channel sample = getD mix (channel * 160 + sample) (pos 0)
+
+-- a mix as bytes: each value's 32 bits, little-endian
+abbrev pub wordOf : ℤ → List ℕ
+wordOf value = bytes32 (modZ value 4294967296)
+
+unfoldable pub wordBytes : List ℤ → List ℕ
+wordBytes mix = flatMap wordOf mix
+
+-- the mix that bytes hold
+unfoldable pub wordsIn : List ℕ → List ℤ
+wordsIn bytes = tabulate (λ i. signed32 (at32 bytes (i * 4))) 640
+
+-- final samples as bytes: "little-endian pairs"
+abbrev pub halfOf : ℤ → List ℕ
+halfOf value = bytes16 (modZ value 65536)
+
+unfoldable pub sampleBytes : List ℤ → List ℕ
+sampleBytes frame = flatMap halfOf frame

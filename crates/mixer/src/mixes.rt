@@ -1,0 +1,76 @@
+// Mixes and final samples as bytes in a region.
+ghost use mathlib.Core.Path.{_≡_};
+ghost use mathlib.Core.Bool.{cond};
+ghost use lib.ListN.{length};
+ghost use Rattle.mixer.specs.Mixes.{wordsIn, wordBytes, sampleBytes};
+use memory::little;
+
+// Reads what a title made of a mix.
+fn read_mix(bytes: &[u8], mix: &mut [i32])
+    requires { ⌜ (length (now bytes) ≡ 2560) × (length (now mix) ≡ 640) ⌝ }
+    ensures { λ _. ⌜ now (mix .exit) ≡ wordsIn (now (bytes .entry)) ⌝ }
+{
+    let mut i = 0;
+    while i < mix.len() {
+        mix[i] = numbers::whole::to_signed32(little::read32(bytes, i * 4));
+        i += 1;
+    }
+}
+
+// Writes a mix out for a title to process.
+fn write_mix(bytes: &mut [u8], mix: &[i32])
+    requires { ⌜ (length (now bytes) ≡ 2560) × (length (now mix) ≡ 640) ⌝ }
+    ensures { λ _. ⌜ now (bytes .exit) ≡ wordBytes (now (mix .entry)) ⌝ }
+{
+    let mut i = 0;
+    while i < mix.len() {
+        little::write32(bytes, i * 4, numbers::whole::to_bits32(mix[i]));
+        i += 1;
+    }
+}
+
+// Writes the final samples where a title finds them.
+pub fn write_frame(bytes: &mut [u8], frame: &[i16])
+    requires { ⌜ (length (now bytes) ≡ 640) × (length (now frame) ≡ 320) ⌝ }
+    ensures { λ _. ⌜ now (bytes .exit) ≡ sampleBytes (now (frame .entry)) ⌝ }
+{
+    let mut i = 0;
+    while i < frame.len() {
+        little::write16(bytes, i * 2, numbers::whole::to_bits16(frame[i]));
+        i += 1;
+    }
+}
+
+// A mix as it reaches the output: what the title made of it where its aux bus is on, else as it is.
+pub fn hear(on: bool, returned: &[u8], given: &[i32], mix: &mut [i32])
+    requires { ⌜ (length (now returned) ≡ 2560) × ((length (now given) ≡ 640) × (length (now mix) ≡ 640)) ⌝ }
+    ensures { λ _. ⌜ now (mix .exit) ≡ cond on (wordsIn (now (returned .entry))) (now (given .entry)) ⌝ }
+{
+    if on {
+        read_mix(returned, mix);
+    } else {
+        copy_mix(given, mix);
+    }
+}
+
+fn copy_mix(given: &[i32], mix: &mut [i32])
+    requires { ⌜ length (now given) ≡ length (now mix) ⌝ }
+    ensures { λ _. ⌜ now (mix .exit) ≡ now (given .entry) ⌝ }
+{
+    let mut i = 0;
+    while i < given.len() {
+        let value = given[i];
+        mix[i] = value;
+        i += 1;
+    }
+}
+
+// Sends a mix to the title where its aux bus is on.
+pub fn send(on: bool, mix: &[i32], bytes: &mut [u8])
+    requires { ⌜ (length (now bytes) ≡ 2560) × (length (now mix) ≡ 640) ⌝ }
+    ensures { λ _. ⌜ now (bytes .exit) ≡ cond on (wordBytes (now (mix .entry))) (now (bytes .entry)) ⌝ }
+{
+    if on {
+        write_mix(bytes, mix);
+    }
+}

@@ -1,0 +1,14 @@
+// What the mixer keeps from frame to frame.
+
+pub enum Output {
+    Mono,
+    Stereo,
+}
+
+// How loud each mix comes out, the first the master volume and the others the aux returns; whether mixes 1 and 2 go through the title;
+// and the output kind.
+pub struct Mixer {
+    pub volume: [f32; 3],
+    pub aux: [bool; 2],
+    pub output: Output,
+}
