@@ -1,13 +1,13 @@
 -- A list that a loop fills from the front, w elements a turn, each turn's from one element of a source: `flatMap` grows by one chunk.
 -- Assumes nothing.
-use mathlib.Core.Path.{_≡_, refl, sym, ap, _∙_}
+use mathlib.Core.Path.{_≡_, refl, sym, ap, _∙_, subst}
 use mathlib.Core.List.{List, [], _∷_, _++_, flatMap, append-assoc, append-nil}
 use Prim.Native.Nat.{ℕ, zero, suc, _+_, _*_, _≤_, _<_, zero-le}
 use native.Mathlib.Nat.{le-of-suc-le-suc, not-suc-le-zero, zero-mul, suc-mul, add-comm, mul-le-mul-right}
 use native.Mathlib.Numerals.{add-one}
 use native.Mathlib.Omega.{arith}
-use lib.ListN.{length, take, drop, getD, length-append, length-drop}
-use lib.Seq.{take-at, drop-at, drop-drop, take-all, length-take-le, drop-append-add}
+use lib.ListN.{length, take, drop, getD, length-append, drop-of-length-le}
+use lib.Seq.{take-at, drop-at, drop-drop, take-all, length-take-le}
 use Rattle.lists.specs.Splice.{splice}
 use Rattle.lists.proofs.Splice.{splice-is, length-splice}
 
@@ -81,3 +81,14 @@ module _ {A B : Type 0} (f : A → List B) (w : ℕ) (wide : (x : A) → length 
     where
       all : i ≡ length xs
       all = omega (arith, c .reach)
+
+  -- a turn made by a call that says what it spliced in
+  pub chunked-called : (xs : List A) (old now : List B) (i : ℕ) (last new : List B) (d : A) → length xs * w ≤ length old → i < length xs → Chunked xs old now i
+      → last ≡ splice now (i * w) new → new ≡ f (getD xs i d) → Chunked xs old last (i + 1)
+  chunked-called xs old now i last new d fit h c e q =
+      subst (λ (l : List B). Chunked xs old l (i + 1)) (sym (e ∙ ap (splice now (i * w)) q)) (chunked-more xs old now i d fit h c)
+
+  -- at the loop's end, where the chunks are as long as the list
+  pub chunked-full : (xs : List A) (old now : List B) (i : ℕ) → length old ≤ length xs * w → length xs ≤ i → Chunked xs old now i → now ≡ flatMap f xs
+  chunked-full xs old now i fit h c =
+      chunked-all xs old now i h c ∙ ap (λ (l : List B). flatMap f xs ++ l) (drop-of-length-le old fit) ∙ append-nil (flatMap f xs)

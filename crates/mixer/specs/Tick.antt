@@ -49,6 +49,15 @@ module _ (l : Layout) where
   abbrev pub readAfter : List ℕ → List ℕ
   readAfter read = cond (eqb (dirtyIn (configurationIn read)) 0) read (splice read (l .«mixer_configuration») (replicate 4 0))
 
+  module _ (s : Mixer) (mixes : List ℤ) where
+    -- a region with the new mix of aux bus k, where that is on
+    abbrev pub sent : ℕ → List ℕ → List ℕ
+    sent k write = cond (getD (s .aux) k false) (splice write (auxAt k) (wordBytes (mixOf (suc k) mixes))) write
+
+    -- a region with the new mixes of the aux buses and these final samples
+    abbrev pub outOf : List ℤ → List ℕ → List ℕ
+    outOf frame write = splice (sent 1 (sent 0 write)) (l .«final_samples») (sampleBytes frame)
+
   module _ (s : Mixer) (read : List ℕ) (mixes : List ℤ) where
     -- mix k as it reaches the output: "Aux on: its mix is read from the read region"
     abbrev pub heard : ℕ → List ℤ
@@ -63,24 +72,20 @@ module _ (l : Layout) where
     abbrev pub frameOf : List ℤ
     frameOf = with 2 (with 1 (with 0 silence))
 
-    -- the other region with the new mix of aux bus k, where that is on
-    abbrev pub sent : ℕ → List ℕ → List ℕ
-    sent k write = cond (getD (s .aux) k false) (splice write (auxAt k) (wordBytes (mixOf (suc k) mixes))) write
-
-    -- the other region, after: the new mixes of the aux buses, and the final samples
+    -- the other region, after: "the new one written to the other", and the final samples
     abbrev pub writeAfter : List ℕ → List ℕ
-    writeAfter write = splice (sent 1 (sent 0 write)) (l .«final_samples») (sampleBytes frameOf)
+    writeAfter write = outOf s mixes frameOf write
 
 -- ---- the call
+
+-- "A refused mixer call gives a zero frame and the state it was given"
+abbrev pub refused : Mixer → ℕ → Mixed
+refused m n = record { number = n; mixer = m; frame = silence }
 
 module _ (l : Layout) (m : Mixer) (mixes : List ℤ) where
   -- served, with this region read
   abbrev pub served : List ℕ → Mixed
   served read = record { number = 0; mixer = stateOf l m read; frame = frameOf l (stateOf l m read) read mixes }
-
-  -- "A refused mixer call gives a zero frame and the state it was given"
-  abbrev pub refused : ℕ → Mixed
-  refused n = record { number = n; mixer = m; frame = silence }
 
   module _ (read : ℕ) (first second : List ℕ) where
     abbrev number : ℕ
@@ -88,7 +93,7 @@ module _ (l : Layout) (m : Mixer) (mixes : List ℤ) where
 
     -- what the call gives back
     unfoldable pub mixed : Mixed
-    mixed = cond (eqb number 0) (served (cond (eqb read 0) first second)) (refused number)
+    mixed = cond (eqb number 0) (served (cond (eqb read 0) first second)) (refused m number)
 
     -- what it leaves in region 0 and in region 1: of one the part that is read, of the other the part that is written
     unfoldable pub firstAfter : List ℕ

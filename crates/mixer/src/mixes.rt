@@ -1,7 +1,9 @@
 // Mixes and final samples as bytes in a region.
 ghost use mathlib.Core.Path.{_≡_};
 ghost use mathlib.Core.Bool.{cond};
+ghost use Prim.Native.Nat.{_+_, _≤_};
 ghost use lib.ListN.{length};
+ghost use Rattle.lists.specs.Splice.{splice};
 ghost use Rattle.mixer.specs.Mixes.{wordsIn, wordBytes, sampleBytes};
 use memory::little;
 
@@ -30,7 +32,7 @@ fn write_mix(bytes: &mut [u8], mix: &[i32])
 }
 
 // Writes the final samples where a title finds them.
-pub fn write_frame(bytes: &mut [u8], frame: &[i16])
+fn write_frame(bytes: &mut [u8], frame: &[i16])
     requires { ⌜ (length (now bytes) ≡ 640) × (length (now frame) ≡ 320) ⌝ }
     ensures { λ _. ⌜ now (bytes .exit) ≡ sampleBytes (now (frame .entry)) ⌝ }
 {
@@ -66,11 +68,21 @@ fn copy_mix(given: &[i32], mix: &mut [i32])
 }
 
 // Sends a mix to the title where its aux bus is on.
-pub fn send(on: bool, mix: &[i32], bytes: &mut [u8])
-    requires { ⌜ (length (now bytes) ≡ 2560) × (length (now mix) ≡ 640) ⌝ }
-    ensures { λ _. ⌜ now (bytes .exit) ≡ cond on (wordBytes (now (mix .entry))) (now (bytes .entry)) ⌝ }
+pub fn send(on: bool, mix: &[i32], region: &mut [u8], at: usize)
+    requires { ⌜ (at + 2560 ≤ length (now region)) × (length (now mix) ≡ 640) ⌝ }
+    ensures { λ _. ⌜ now (region .exit) ≡ cond on (splice (now (region .entry)) at (wordBytes (now (mix .entry)))) (now (region .entry)) ⌝ }
 {
     if on {
-        write_mix(bytes, mix);
+        let end = at + 2560;
+        write_mix(&mut region[at..end], mix);
     }
+}
+
+// Puts the final samples at their place.
+pub fn put_frame(frame: &[i16], region: &mut [u8], at: usize)
+    requires { ⌜ (at + 640 ≤ length (now region)) × (length (now frame) ≡ 320) ⌝ }
+    ensures { λ _. ⌜ now (region .exit) ≡ splice (now (region .entry)) at (sampleBytes (now (frame .entry))) ⌝ }
+{
+    let end = at + 640;
+    write_frame(&mut region[at..end], frame);
 }

@@ -7,13 +7,12 @@ use memory::layout::Layout;
 use memory::little;
 ghost use mathlib.Core.Path.{_≡_};
 ghost use mathlib.Core.Bool.{cond};
-ghost use mathlib.Core.List.{_∷_, []};
-ghost use Prim.Native.Nat.{_+_, _*_, _≤_, _<_};
+ghost use Prim.Native.Nat.{_+_, _≤_};
 ghost use lib.Dec.{eqb};
 ghost use lib.ListN.{length, replicate};
-ghost use Rattle.lists.specs.Splice.{part, splice};
+ghost use Rattle.lists.specs.Splice.{splice};
 ghost use Rattle.memory.specs.Little.{at32};
-ghost use Rattle.mixer.specs.Tick.{Roomy, numberOf, readAfter, frameOf, writeAfter, stateOf, served, mixed, firstAfter, secondAfter};
+ghost use Rattle.mixer.specs.Tick.{Roomy, readAfter, frameOf, outOf, writeAfter, stateOf, served, refused, mixed, firstAfter, secondAfter};
 
 // What a call gives back: 0, or the number of its refusal; the state; and 160 pairs of final samples.
 pub struct Mixed {
@@ -42,4 +41,86 @@ fn frame_of(l: Layout, state: Mixer, read: &[u8], given: &[i32]) -> [i16; 320]
     downmix(&mut frame, &first, volume[1], output);
     downmix(&mut frame, &second, volume[2], output);
     frame
+}
+
+// Writes the mixes that go to the title, and the final samples.
+fn write_out(l: Layout, state: Mixer, given: &[i32], frame: &[i16], write: &mut [u8])
+    requires { ⌜ Roomy l (length (now write)) × ((length (now given) ≡ 1920) × (length (now frame) ≡ 320)) ⌝ }
+    ensures { λ _. ⌜ now (write .exit) ≡ outOf l state (now (given .entry)) (now (frame .entry)) (now (write .entry)) ⌝ }
+{
+    let aux = state.aux;
+    let start = l.intermediate_samples as usize;
+    mixes::send(aux[0], &given[640..1280], write, start);
+    mixes::send(aux[1], &given[1280..1920], write, start + 2560);
+    mixes::put_frame(frame, write, l.final_samples as usize);
+}
+
+// Clears the dirty word of the configuration at a place, where it is not 0.
+fn clear_dirty(read: &mut [u8], at: usize)
+    requires { ⌜ at + 44 ≤ length (now read) ⌝ }
+    ensures { λ _. ⌜ now (read .exit) ≡ cond (eqb (at32 (now (read .entry)) at) 0) (now (read .entry)) (splice (now (read .entry)) at (replicate 4 0)) ⌝ }
+{
+    if little::read32(read, at) != 0 {
+        little::write32(read, at, 0);
+    }
+}
+
+// A call that is not refused.
+fn mix(l: Layout, mixer: Mixer, read: &mut [u8], write: &mut [u8], given: &[i32]) -> Mixed
+    requires { ⌜ Roomy l (length (now read)) × ((length (now write) ≡ length (now read)) × (length (now given) ≡ 1920)) ⌝ }
+    ensures answer { λ r. ⌜ r ≡ served l mixer (now (given .entry)) (now (read .entry)) ⌝ }
+    ensures read { λ _. ⌜ now (read .exit) ≡ readAfter l (now (read .entry)) ⌝ }
+    ensures written { λ _. ⌜ now (write .exit) ≡ writeAfter l (stateOf l mixer (now (read .entry))) (now (read .entry)) (now (given .entry)) (now (write .entry)) ⌝ }
+{
+    let at = l.mixer_configuration as usize;
+    let end = at + 44;
+    let state = parse_config(mixer, &read[at..end]);
+    let frame = frame_of(l, state, read, given);
+    write_out(l, state, given, &frame, write);
+    clear_dirty(read, at);
+    Mixed {
+        number: 0,
+        mixer: state,
+        frame,
+    }
+}
+
+// What a refused call gives back.
+fn refuse(number: u8, mixer: Mixer) -> Mixed
+    ensures { λ r. ⌜ r ≡ refused mixer number ⌝ }
+{
+    Mixed {
+        number,
+        mixer,
+        frame: [0i16; 320],
+    }
+}
+
+// Mixes one frame: `read` is the region that the title wrote last.
+pub fn tick(
+    mixer: Mixer,
+    l: Layout,
+    read: u32,
+    first: &mut [u8],
+    second: &mut [u8],
+    given: &[i32],
+) -> Mixed
+    ensures answer { λ r. ⌜ r ≡ mixed l mixer (now (given .entry)) read (now (first .entry)) (now (second .entry)) ⌝ }
+    ensures first { λ _. ⌜ now (first .exit) ≡ firstAfter l mixer (now (given .entry)) read (now (first .entry)) (now (second .entry)) ⌝ }
+    ensures second { λ _. ⌜ now (second .exit) ≡ secondAfter l mixer (now (given .entry)) read (now (first .entry)) (now (second .entry)) ⌝ }
+{
+    let number = memory::layout::layout_number(first.len(), second.len(), l);
+    if number != 0 {
+        return refuse(number, mixer);
+    }
+    if given.len() != 1920 {
+        return refuse(6, mixer);
+    }
+    if read > 1 {
+        return refuse(8, mixer);
+    }
+    if read == 0 {
+        return mix(l, mixer, first, second, given);
+    }
+    mix(l, mixer, second, first, given)
 }
