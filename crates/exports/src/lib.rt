@@ -5,6 +5,8 @@ ghost use Prim.Native.Nat.{_+_, _≤_, _<_};
 ghost use lib.ListN.{length};
 use adpcm::History;
 use memory::layout::Layout;
+use mixer::state::Mixer;
+use mixer::state::Output;
 
 #[no_mangle]
 pub extern "C" fn yinzhor_current_region(first: u16, second: u16) -> u32 {
@@ -25,11 +27,10 @@ pub extern "C" fn yinzhor_write_dsp32(bytes: &mut [u8], at: usize, value: u32)
     memory::little::write_dsp32(bytes, at, value);
 }
 
-#[no_mangle]
-pub extern "C" fn yinzhor_layout_number(first: usize, second: usize, offsets: &[u32]) -> u8
+fn layout_of(offsets: &[u32]) -> Layout
     requires { ⌜ length (now offsets) ≡ 7 ⌝ }
 {
-    let l = Layout {
+    Layout {
         configurations: offsets[0],
         statuses: offsets[1],
         coefficients: offsets[2],
@@ -37,8 +38,14 @@ pub extern "C" fn yinzhor_layout_number(first: usize, second: usize, offsets: &[
         mixer_configuration: offsets[4],
         final_samples: offsets[5],
         intermediate_samples: offsets[6],
-    };
-    memory::layout::layout_number(first, second, l)
+    }
+}
+
+#[no_mangle]
+pub extern "C" fn yinzhor_layout_number(first: usize, second: usize, offsets: &[u32]) -> u8
+    requires { ⌜ length (now offsets) ≡ 7 ⌝ }
+{
+    memory::layout::layout_number(first, second, layout_of(offsets))
 }
 
 #[no_mangle]
@@ -134,4 +141,81 @@ pub extern "C" fn yinzhor_fading(from: f32, to: f32, i: usize, sample: i16) -> i
 #[no_mangle]
 pub extern "C" fn yinzhor_interpolate(a: i16, b: i16, fraction: f64) -> i16 {
     mixing::interpolate::interpolate(a, b, fraction)
+}
+
+// The mixer's state from three volumes and three switches: the aux buses, and whether the output is mono.
+fn state_of(volume: &[f32], switches: &[u8]) -> Mixer
+    requires { ⌜ (length (now volume) ≡ 3) × (length (now switches) ≡ 3) ⌝ }
+{
+    let output = if switches[2] != 0 {
+        Output::Mono
+    } else {
+        Output::Stereo
+    };
+    Mixer {
+        volume: [volume[0], volume[1], volume[2]],
+        aux: [switches[0] != 0, switches[1] != 0],
+        output,
+    }
+}
+
+fn is_mono(output: Output) -> u8 {
+    match output {
+        Output::Mono => 1,
+        Output::Stereo => 0,
+    }
+}
+
+fn put_volumes(values: [f32; 3], volume: &mut [f32])
+    requires { ⌜ length (now volume) ≡ 3 ⌝ }
+{
+    let mut i = 0;
+    while i < volume.len() {
+        volume[i] = values[i];
+        i += 1;
+    }
+}
+
+fn put_switches(aux: [bool; 2], mono: u8, switches: &mut [u8])
+    requires { ⌜ length (now switches) ≡ 3 ⌝ }
+{
+    let bytes = [aux[0] as u8, aux[1] as u8, mono];
+    memory::little::copy(&bytes, switches);
+}
+
+fn put_frame(values: [i16; 320], frame: &mut [i16])
+    requires { ⌜ length (now frame) ≡ 320 ⌝ }
+{
+    let mut i = 0;
+    while i < frame.len() {
+        let value = values[i];
+        frame[i] = value;
+        i += 1;
+    }
+}
+
+#[no_mangle]
+pub extern "C" fn yinzhor_mixer_tick(
+    first: &mut [u8],
+    second: &mut [u8],
+    offsets: &[u32],
+    read: u32,
+    mixes: &[i32],
+    volume: &mut [f32],
+    switches: &mut [u8],
+    frame: &mut [i16],
+) -> u8
+    requires { ⌜ (length (now offsets) ≡ 7) × ((length (now volume) ≡ 3) × ((length (now switches) ≡ 3) × (length (now frame) ≡ 320))) ⌝ }
+{
+    let state = state_of(volume, switches);
+    let mixed = mixer::tick::tick(state, layout_of(offsets), read, first, second, mixes);
+    let after = mixed.mixer;
+    let values = mixed.frame;
+    put_frame(values, frame);
+    let volumes = after.volume;
+    put_volumes(volumes, volume);
+    let aux = after.aux;
+    let output = after.output;
+    put_switches(aux, is_mono(output), switches);
+    mixed.number
 }

@@ -71,7 +71,7 @@ returns c =
     let mixes = a .given .now in
     let at = a .l .«mixer_configuration» in
     let state : parsed .parse-config .result ≡ stateOf (a .l) (a .mixer) read =
-        parsed .parse-config .ensures ∙ ap (λ (bytes : List ℕ). configured bytes (a .mixer)) (lent-is at 44 read) in
+    parsed .parse-config .ensures ∙ ap (λ (bytes : List ℕ). configured bytes (a .mixer)) (lent-is at 44 read) in
     let frame = framed .frame-of .ensures ∙ ap (λ (s : Mixer). frameOf (a .l) s read mixes) state in (
       λ j. record { number = 0; mixer = state j; frame = frame j },
       (
