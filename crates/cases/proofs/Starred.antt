@@ -1,12 +1,14 @@
 -- The definitions agree with every starred case: each side computes. Assumes nothing.
 use mathlib.Core.Path.{refl}
+use lib.Ieee.{ofInt, add, sub, mul, toSigned}
+use Rattle.mixing.specs.Interpolate.{interpolate}
 use Rattle.adpcm.specs.Code.{sumOf}
 use Rattle.adpcm.specs.Adpcm.{sampleOf}
 use Rattle.adpcm.specs.Public.{publicSample}
 use Rattle.cases.specs.Starred.{StarredCasesHold}
 
 pub starred-cases-hold : StarredCasesHold
-unfolding sampleOf publicSample sumOf
+unfolding sampleOf publicSample sumOf interpolate ofInt add sub mul toSigned
 starred-cases-hold = record {
-  holds = (refl, (refl, (refl, (refl, (refl, (refl, ((refl, refl), ((refl, refl), ((refl, refl), ((refl, refl), tt))))))))));
+  holds = (refl, (refl, (refl, (refl, (refl, (refl, ((refl, refl), ((refl, refl), ((refl, refl), ((refl, refl), (refl, (refl, (refl, tt)))))))))))));
 }

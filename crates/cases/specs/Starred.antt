@@ -3,9 +3,13 @@
 -- Assumes nothing.
 use Prim.Native.Nat.{ℕ}
 use mathlib.Core.Path.{_≡_}
+use mathlib.Core.Bool.{false}
 use mathlib.Core.List.{List, [], _∷_}
 use lib.ListN.{replicate}
+use lib.Ieee.{Float, fin}
 use lib.IntN.{ℤ, pos, negsuc}
+use Rattle.numbers.specs.Casts.{single}
+use Rattle.mixing.specs.Interpolate.{interpolate}
 use Rattle.memory.specs.Choice.{chosen}
 use Rattle.memory.specs.Little.{atDsp32, dsp32Bytes}
 use Rattle.adpcm.specs.declared.History.{History}
@@ -16,6 +20,16 @@ use Rattle.adpcm.specs.Public.{publicSample}
 abbrev history : ℤ → ℤ → History
 history yn1 yn2 = record { yn1 = yn1; yn2 = yn2 }
 
+-- floats: 0.5, 1.5 and 16777216
+abbrev half : Float
+half = fin false 1 (negsuc 0)
+
+abbrev oneAndAHalf : Float
+oneAndAHalf = fin false 3 (negsuc 0)
+
+abbrev 2^24 : Float
+2^24 = fin false 1 (pos 24)
+
 pub data Case : Type 0 where
   -- two counters, and the region chosen
   counters : (first second region : ℕ) → Case
@@ -25,6 +39,10 @@ pub data Case : Type 0 where
   decode : (coefficients : List ℤ) (h : History) (bytes : List ℕ) (count : ℕ) (samples : List ℤ) (last : History) → Case
   -- a history and a code, the sample, and the sample of the public description, which does not wrap
   step : (h : History) (c : Code) (sample published : ℤ) → Case
+  -- two samples and a fraction of the way, and the sample there
+  between : (a b : ℤ) (fraction : Float) (sample : ℤ) → Case
+  -- a whole number, and the float it is rounded to
+  rounded : (n : ℤ) (x : Float) → Case
 
 -- the definitions give the case's outcome
 abbrev pub Agrees : Case → Type 0
@@ -33,6 +51,8 @@ Agrees (dsp32 bytes value) = (atDsp32 bytes 0 ≡ value) × (dsp32Bytes value �
 Agrees (decode coefficients h bytes count samples last) =
     (decodedSamples sampleOf coefficients h bytes count ≡ samples) × (decodedHistory sampleOf coefficients h bytes count ≡ last)
 Agrees (step h c sample published) = (sampleOf h c ≡ sample) × (publicSample h c ≡ published)
+Agrees (between a b fraction sample) = interpolate a b fraction ≡ sample
+Agrees (rounded n x) = single n ≡ x
 
 abbrev pub starred : List Case
 starred =
@@ -46,6 +66,9 @@ starred =
     ∷ decode (replicate 16 (pos 0)) (history (pos 0) (pos 0)) (0 ∷ 31 ∷ 112 ∷ replicate 5 0) 3 (pos 1 ∷ negsuc 0 ∷ pos 7 ∷ []) (history (pos 7) (negsuc 0))
     ∷ step (history (negsuc 32767) (negsuc 32767)) (code 0 (negsuc 32767) (negsuc 32767) 0) (negsuc 32767) (pos 32767)
     ∷ step (history (pos 0) (pos 0)) (code 15 (pos 0) (pos 0) 8) (negsuc 32767) (negsuc 32767)
+    ∷ between (pos 0) (negsuc 2) half (negsuc 0)
+    ∷ between (pos 0) (pos 100) oneAndAHalf (pos 150)
+    ∷ rounded (pos 16777217) 2^24
     ∷ []
 
 -- every case of a list

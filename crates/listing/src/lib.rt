@@ -1,5 +1,5 @@
 // The decode listing: the samples and the history of an ADPCM decode as two tables of text.
-mod input;
+pub mod input;
 mod text;
 
 ghost use mathlib.Core.Path.{_≡_};

@@ -93,13 +93,21 @@ fn adpcm(random: &mut Random) -> Replay {
     replay
 }
 
+/// two singles whose sum as doubles is x, or close to it where x has too many
+/// digits or is too small or too large for that.
+fn split(x: f64) -> (f32, f32) {
+    let high = x as f32;
+    (high, if high.is_infinite() { 0.0 } else { (x - high as f64) as f32 })
+}
+
 /// records of 16 bytes: the kind, then words a, b, c, zero where not named.
 /// the answer has 4 bytes, those of a signed number or of a single's bits.
-/// no single or double is not a number, but in kinds 4 and 5.
+/// no single is not a number, but in kinds 4, 5 and 9.
 /// kind 0: the single a; to i32.
-/// kind 1, 2: the double of low word a and high word b; to i16, to u32.
+/// kind 1, 2: the sum of the singles a and b as doubles; to i16, to u32.
 /// kind 3: a signed; to a single.
-/// kind 4, 5: the bits a; the gain, the rate as a single.
+/// kind 4: the bits a; the gain.
+/// kind 5, 9: the bits a; the low and the high word of the rate's bits.
 /// kind 6: the gain a, the sample b; what it adds.
 /// kind 7: fading from a to b, c = 65536 times the place plus the sample;
 /// what it adds.
@@ -123,12 +131,13 @@ fn numbers(random: &mut Random) -> Replay {
         }
         let (gain, rate) = probe_gain_and_rate(&mut memory, bits);
         record(4, [bits, 0, 0], gain.to_bits());
-        record(5, [bits, 0, 0], (rate as f32).to_bits());
+        record(5, [bits, 0, 0], rate.to_bits() as u32);
+        record(9, [bits, 0, 0], (rate.to_bits() >> 32) as u32);
     }
-    for x in doubles().into_iter().filter(|x| !x.is_nan()) {
-        let (low, high) = (x.to_bits() as u32, (x.to_bits() >> 32) as u32);
-        record(1, [low, high, 0], x as i16 as u32);
-        record(2, [low, high, 0], x as u32);
+    for (a, b) in doubles().into_iter().filter(|x| !x.is_nan()).map(split) {
+        let x = a as f64 + b as f64;
+        record(1, [a.to_bits(), b.to_bits(), 0], x as i16 as u32);
+        record(2, [a.to_bits(), b.to_bits(), 0], x as u32);
     }
     let random_wholes: Vec<_> = (0..40).map(|_| whole(random)).collect();
     for n in wholes().into_iter().chain(random_wholes) {
