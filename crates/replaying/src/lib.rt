@@ -15,6 +15,14 @@ pub fn single(bits: u32) -> f32 {
     numbers::bits::gain_of(bits)
 }
 
+// The same of 64 bits and a double: those that are not a number, with the sign's bit dropped, are above an infinity's.
+pub fn double(bits: u64) -> f64 {
+    if bits % 0x8000_0000_0000_0000 <= 0x7ff0_0000_0000_0000 {
+        return f64::from_bits(bits);
+    }
+    0.0
+}
+
 // The bits of a float, always the same ones where it is not a number.
 pub fn bits32(x: f32) -> u32 {
     if x == x {

@@ -5,8 +5,10 @@
 //!   compare measure WHAT source|port    runs WHAT on a fixed input, to be timed
 
 mod casts;
+mod config;
 mod decode;
 mod dsp32;
+mod filters;
 mod layout;
 mod measure;
 mod mixer;
@@ -26,7 +28,7 @@ use cases::Random;
 type Comparison = fn(&mut Random, usize) -> Result<u64, String>;
 
 /// each with how many random inputs are few.
-const COMPARISONS: [(&str, Comparison, usize); 7] = [
+const COMPARISONS: [(&str, Comparison, usize); 9] = [
     ("region", region::compare, 100_000),
     ("dsp32", dsp32::compare, 100_000),
     ("window", window::compare, 100_000),
@@ -34,6 +36,8 @@ const COMPARISONS: [(&str, Comparison, usize); 7] = [
     ("decode", decode::compare, 100_000),
     ("casts", casts::compare, 1_000_000),
     ("mixer", mixer::compare, 20_000),
+    ("filters", filters::compare, 20_000),
+    ("config", config::compare, 20_000),
 ];
 
 /// the oracle's answer and the port's are the same, or the input is told.

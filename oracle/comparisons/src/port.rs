@@ -35,6 +35,17 @@ unsafe extern "C" {
     pub safe fn yinzhor_interpolate(a: i16, b: i16, fraction: f64) -> i16;
     fn yinzhor_fading(from: f32, to: f32, i: usize, sample: i16) -> i32;
 
+    fn yinzhor_filter(
+        marks: *const u8,
+        marks_len: usize,
+        simple: *mut i32,
+        simple_len: usize,
+        biquad: *mut i32,
+        biquad_len: usize,
+        samples: *mut i16,
+        samples_len: usize,
+    ) -> bool;
+
     fn yinzhor_mixer_tick(
         first: *mut u8,
         first_len: usize,
@@ -132,4 +143,22 @@ pub fn mixer_tick(offsets: &[u32; 7], read: u32, mixes: &[i32], mixed: &mut Mixe
             frame.len(),
         )
     }
+}
+
+/// filters in place: marks of the two filters, b0, a1 and y1 of the first,
+/// b, a, x and y of the second, and left and right of each sample in turn.
+pub fn filter(marks: &[u8; 2], simple: &mut [i32; 4], biquad: &mut [i32; 13], samples: &mut [i16]) {
+    let served = unsafe {
+        yinzhor_filter(
+            marks.as_ptr(),
+            marks.len(),
+            simple.as_mut_ptr(),
+            simple.len(),
+            biquad.as_mut_ptr(),
+            biquad.len(),
+            samples.as_mut_ptr(),
+            samples.len(),
+        )
+    };
+    assert!(served, "filters out of range");
 }

@@ -1,11 +1,12 @@
 //! writes what the oracle answers to fixed inputs, for programs that replay
 //! it without Rust: `record REPOSITORY` writes stdin and stdout of the crates
-//! replay_memory, replay_adpcm, replay_numbers and replay_mixer. every number
-//! is little-endian.
+//! replay_memory, replay_adpcm, replay_numbers, replay_mixer and run_config.
+//! every number is little-endian.
 
 use std::path::Path;
 use std::{env, fs, io};
 
+use cases::configuring::{FLAGS, Job};
 use cases::floats::{doubles, gain, sample, single, singles, whole, wholes};
 use cases::layout::SIZES;
 use cases::{COUNTERS, Decode, Mixing, Random, SAMPLES, WORDS};
@@ -264,11 +265,82 @@ fn mixer(random: &mut Random) -> Replay {
     replay
 }
 
+/// jobs and answers as the crate run_config has them: nothing flagged and
+/// every flag alone, over the default record and a random one; all flags; the
+/// boundaries of numbers 20 and 21; and random ones.
+fn config(random: &mut Random) -> Replay {
+    let mut jobs = Vec::new();
+    for word in FLAGS.map(|bit| 1 << bit).into_iter().chain([0, u32::MAX]) {
+        let mut plain = Job::plain(random, 1000);
+        plain.embedded(900);
+        plain.slots(0b1011, [3, 0, 70_000, 1000]);
+        let mut other = Job::random(random);
+        for job in [&mut plain, &mut other] {
+            job.flag(word);
+        }
+        jobs.extend([plain, other]);
+    }
+    // the queue holds 64; a slot of length 0 does not count, an embedded
+    // entry of length 0 does, and what a reset frees is used again
+    let [slots, embed] = [19, 30].map(|bit| 1 << bit);
+    for (queued, word, mask, length, embedded) in [
+        (63, embed, 0, 5, 5),
+        (64, embed, 0, 5, 5),
+        (64, embed, 0, 5, 0),
+        (60, slots, 15, 5, 5),
+        (61, slots, 15, 5, 5),
+        (61, slots, 15, 0, 5),
+        (59, slots | embed, 15, 5, 5),
+        (60, slots | embed, 15, 5, 5),
+        (64, slots, 0, 5, 5),
+        (64, 1 << 4 | slots | embed, 15, 5, 5),
+        (64, 1 << 29 | slots | embed, 15, 5, 5),
+    ] {
+        let mut job = Job::plain(random, 1000);
+        job.queue(queued);
+        job.flag(word);
+        job.format(1);
+        job.embedded(embedded);
+        job.slots(mask, [5, 5, length, 5]);
+        jobs.push(job);
+    }
+    // ADPCM of the lane's length and one more, by the embedded entry and by
+    // a slot; other formats; both numbers
+    for (queued, word, code, length, embedded) in [
+        (0, embed, 2, 5, 1000),
+        (0, embed, 2, 5, 1001),
+        (0, embed, 3, 5, 1001),
+        (0, embed, 0, 5, u32::MAX),
+        (0, 1 | slots, 2, 1000, 1001),
+        (0, 1 | slots, 2, 1001, 5),
+        (0, slots, 2, 1001, 5),
+        (64, embed, 2, 5, 1001),
+        (63, embed, 2, 5, 1001),
+    ] {
+        let mut job = Job::plain(random, 1000);
+        job.queue(queued);
+        job.flag(word);
+        job.format(code);
+        job.embedded(embedded);
+        job.slots(4, [1001, 1001, length, 1001]);
+        jobs.push(job);
+    }
+    jobs.extend((0..10).map(|_| Job::random(random)));
+
+    let mut replay = Replay::default();
+    for job in jobs {
+        replay.stdin.extend(job.bytes());
+        replay.stdout.extend(job.answer());
+    }
+    replay
+}
+
 fn main() -> io::Result<()> {
     let repository = env::args().nth(1).expect("record REPOSITORY");
     let crates = Path::new(&repository).join("crates");
     memory(&mut Random::new(1)).write(&crates.join("replay_memory"))?;
     adpcm(&mut Random::new(2)).write(&crates.join("replay_adpcm"))?;
     numbers(&mut Random::new(3)).write(&crates.join("replay_numbers"))?;
-    mixer(&mut Random::new(4)).write(&crates.join("replay_mixer"))
+    mixer(&mut Random::new(4)).write(&crates.join("replay_mixer"))?;
+    config(&mut Random::new(5)).write(&crates.join("run_config"))
 }

@@ -1,0 +1,4 @@
+pub mod Cases
+pub mod Ranges
+pub mod Passes
+pub mod Identity

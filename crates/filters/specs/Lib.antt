@@ -1,0 +1,4 @@
+pub mod Defaults
+pub mod Range
+pub mod Filter
+pub mod Process

@@ -1,0 +1,4 @@
+pub mod Blank
+pub mod Malformed
+pub mod Set
+pub mod Tidy

@@ -1,0 +1,87 @@
+// When a lent record is malformed, number 7.
+ghost use mathlib.Core.Path.{_≡_};
+ghost use Prim.Native.Nat.{_≤_};
+ghost use lib.Dec.{ltb};
+ghost use Rattle.voice.specs.Blank.{limit};
+ghost use Rattle.voice.specs.Malformed.{tooLong, anyTooLong, strayFilters, malformed};
+use crate::blank::QUEUE;
+use crate::record::Entry;
+use crate::record::Format;
+use crate::record::Voice;
+use filters::range::biquad_in_range;
+use filters::range::simple_in_range;
+use filters::state::Filters;
+use numbers::tests::is_fraction;
+use numbers::tests::is_rate;
+
+// A count that is more than the lane holds.
+fn over(count: u32, lane: usize) -> bool
+    ensures { λ r. ⌜ r ≡ ltb lane count ⌝ }
+{
+    count as usize > lane
+}
+
+// An ADPCM entry that is longer than the lane.
+fn too_long(e: Entry, lane: usize) -> bool
+    ensures { λ r. ⌜ r ≡ tooLong lane e ⌝ }
+{
+    let f = e.format;
+    match f {
+        Format::Pcm8 => false,
+        Format::Pcm16 => false,
+        Format::Adpcm => over(e.length, lane),
+    }
+}
+
+// No early exit, so that the loop's invariant is an equation.
+fn any_too_long(v: Voice, lane: usize) -> bool
+    requires { ⌜ v .queued ≤ limit ⌝ }
+    ensures { λ r. ⌜ r ≡ anyTooLong lane (v .queue) (v .queued) ⌝ }
+{
+    let n = v.queued;
+    let mut found = false;
+    let mut i: usize = 0;
+    while i < n {
+        let e = v.queue[i];
+        let long = too_long(e, lane);
+        found = found | long;
+        i += 1;
+    }
+    found
+}
+
+// A filter that is on and holds a number out of range.
+fn stray_filters(f: Filters) -> bool
+    ensures { λ r. ⌜ r ≡ strayFilters f ⌝ }
+{
+    let simple = f.simple;
+    let biquad = f.biquad;
+    let first = f.has_simple & !simple_in_range(simple);
+    let second = f.has_biquad & !biquad_in_range(biquad);
+    first | second
+}
+
+pub fn malformed(v: Voice, lane: usize) -> bool
+    ensures { λ r. ⌜ r ≡ malformed lane v ⌝ }
+{
+    if v.queued > QUEUE {
+        return true;
+    }
+    if v.remaining > v.length {
+        return true;
+    }
+    if over(v.decoded, lane) {
+        return true;
+    }
+    if any_too_long(v, lane) {
+        return true;
+    }
+    if !is_rate(v.rate) {
+        return true;
+    }
+    if !is_fraction(v.fraction) {
+        return true;
+    }
+    let f = v.filters;
+    stray_filters(f)
+}
