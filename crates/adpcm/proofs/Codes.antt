@@ -8,7 +8,7 @@ use native.Mathlib.Nat.{le-of-suc-le-suc, not-suc-le-zero}
 use native.Mathlib.Numerals.{add-one}
 use native.Mathlib.Omega.{arith}
 use lib.IntN.{ℤ, pos}
-use lib.ListN.{length, take, drop, getD, length-append, length-take, length-drop, length-map}
+use lib.ListN.{length, take, drop, getD, length-append, length-drop, length-map}
 use lib.Seq.{length-take-le, take-all, take-append-le, take-append-add}
 use Rattle.lists.proofs.Walk.{below-or}
 use Rattle.adpcm.specs.declared.History.{History}

@@ -8,7 +8,7 @@ use lib.IntN.{ℤ}
 use lib.ListN.{length, take, drop, length-append, length-drop}
 use lib.Seq.{length-take-le, take-at, drop-at, drop-drop}
 use Rattle.adpcm.specs.declared.History.{History}
-use Rattle.adpcm.specs.Code.{Code, frameCodes, framesOf, samplesOf, historyAfter, decodedSamples, decodedHistory}
+use Rattle.adpcm.specs.Code.{frameCodes, framesOf, samplesOf, historyAfter, decodedSamples, decodedHistory}
 use Rattle.adpcm.specs.Adpcm.{sampleOf}
 use Rattle.adpcm.proofs.Codes.{frame-long, taken-long, length-samples, samples-off, history-off}
 

@@ -1,15 +1,12 @@
 -- Document 01's decode is the public description's wherever every sum on the way fits 32 signed bits: a sum that fits wraps to itself, so the two give
 -- the same sample, and with it the same history for the next. By induction on the codes. Assumes nothing.
-use mathlib.Core.Path.{_≡_, refl, sym, ap, _∙_, subst}
-use mathlib.Core.Bool.{Bool, true, false, _&&_}
+use mathlib.Core.Path.{_≡_, refl, ap, _∙_}
 use mathlib.Core.List.{List, [], _∷_}
-use Prim.Native.Nat.{ℕ}
 use lib.Dec.{T, ltb→lt}
 use lib.IntN.{ℤ}
 use lib.ListN.{take}
 use lib.Signed.{mag}
 use Rattle.lists.proofs.Bools.{and-left, and-right}
-use Rattle.numbers.specs.Wrap.{wrap32}
 use Rattle.numbers.proofs.Ranges.{wrap-self}
 use Rattle.adpcm.specs.declared.History.{History}
 use Rattle.adpcm.specs.Code.{Code, sumOf, after, samplesOf, historyAfter, codesOf, framesOf}

@@ -1,6 +1,6 @@
 -- The public description of GameCube and Wii DSP-ADPCM, which takes each sum as a whole number and wraps nothing, and the claim that document
 -- 01's decode is the same wherever every sum on the way fits 32 signed bits. `proofs/Public.antt` proves the claim. Assumes nothing.
-use Prim.Native.Nat.{ℕ, _<_}
+use Prim.Native.Nat.{ℕ}
 use mathlib.Core.Path.{_≡_}
 use mathlib.Core.Bool.{Bool, true, _&&_}
 use mathlib.Core.List.{List, [], _∷_}

@@ -1,7 +1,7 @@
 // Module 2: ADPCM. Frames of eight bytes, each handed on as a part of the bytes.
 ghost use mathlib.Core.Path.{_≡_};
 ghost use mathlib.Core.List.{_++_};
-ghost use Prim.Native.Nat.{ℕ, min, _*_, _/_, _%_, _^_, _≤_, _<_};
+ghost use Prim.Native.Nat.{min, _*_, _/_, _%_, _^_, _≤_, _<_};
 ghost use lib.ListN.{length, take, drop, getD};
 ghost use lib.IntN.{pos};
 ghost use Rattle.numbers.specs.Within.{Is};

@@ -11,7 +11,7 @@ use Rattle.config.specs.Dirty.{dirtyIn}
 use Rattle.config.specs.Parsed.{parsed, configured, bytesAfter}
 use Rattle.config.specs.Refusal.{refusal}
 
--- "a refused voice is untouched": with a number that is not 0, the record and the configuration's bytes stay as they were
+-- "that voice untouched": with a number that is not 0, the record and the configuration's bytes stay as they were
 pub record Untouched (bytes coefficients : List ℕ) (v : Voice) (L n : ℕ) : Type 0 where
   pub result : configured bytes coefficients v L ≡ record { number = n; voice = v }
   pub stays : bytesAfter bytes v L ≡ bytes

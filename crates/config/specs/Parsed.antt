@@ -32,7 +32,7 @@ module _ (bytes coefficients : List ℕ) (v : Voice) where
   unfoldable pub parsed : Voice
   parsed = tidied (pushedAll (toAdd bytes v) settled)
 
-  -- what a voice's configuration comes to: "a refused voice is untouched"
+  -- what a voice's configuration comes to; refused, "that voice untouched"
   unfoldable pub configured : ℕ → Configured
   configured L =
       record { number = refusal bytes v L; voice = cond (eqb (refusal bytes v L) 0) parsed v }

@@ -43,7 +43,7 @@ abbrev pub half : List ℕ → ℕ → ℤ
 half bytes at = signed16 (at16 bytes at)
 
 module _ (bytes : List ℕ) where
-  -- RESET: "whole record back to default"
+  -- RESET: the whole record is the default again
   unfoldable pub resetStep : Voice → Voice
   resetStep v = cond (flag bytes RESET) defaultVoice v
 

@@ -1,15 +1,13 @@
 -- Module 3 of document 01, one sample of one channel through each filter: "Simple, shift 15, then biquad, shift 14, sums wrapped to 32 bits, clamped.
 -- They run on produced samples only. Defaults are identities." Assumes nothing: these are definitions.
 use Prim.Native.Nat.{ℕ, _+_}
-use mathlib.Core.Bool.{false}
-use mathlib.Core.List.{List, [], _∷_}
+use mathlib.Core.List.{List}
 use lib.ListN.{getD, set}
 use lib.IntN.{ℤ, pos, _+ℤ_, _*ℤ_}
 use lib.Signed.{shrZ}
 use Rattle.numbers.specs.Wrap.{wrap32, clamp16}
 use Rattle.filters.specs.declared.state.SimpleFilter.{SimpleFilter}
 use Rattle.filters.specs.declared.state.BiquadFilter.{BiquadFilter}
-use Rattle.filters.specs.declared.state.Filters.{Filters}
 
 -- ---- "Simple, shift 15"
 

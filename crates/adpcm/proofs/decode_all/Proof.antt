@@ -1,9 +1,8 @@
 -- `adpcm::decode_all` meets its contract: a turn takes one frame off the front of what is left to decode. Assumes nothing.
-use mathlib.Core.Path.{_≡_, refl, sym, ap, _∙_, subst}
-use mathlib.Core.List.{List, _++_}
-use Prim.Native.Nat.{ℕ, _+_, _-_, _*_, _≤_, _<_}
+use mathlib.Core.Path.{_≡_, refl}
+use Prim.Native.Nat.{_+_, _-_}
 use native.Mathlib.Omega.{arith}
-use lib.ListN.{length, take, drop, length-append, length-drop}
+use lib.ListN.{length, take, drop}
 use borrow.Author.Needs.{needs}
 use Rattle.lists.proofs.Splice.{lent-is, lent-long}
 use Rattle.adpcm.proofs.Frames.{Done, start, turn-called, done-length, finish}

@@ -1,8 +1,8 @@
 -- `adpcm::nibble_at` meets its contract: an even index is a byte's higher half, an odd one its lower. Assumes nothing.
 use borrow.Author.Needs.{needs}
-use mathlib.Core.Path.{_≡_, refl, sym, ap, _∙_}
+use mathlib.Core.Path.{_≡_, sym, ap, _∙_}
 use mathlib.Core.List.{List}
-use Prim.Native.Nat.{ℕ, suc, _+_, _*_, _/_, _%_, _<_}
+use Prim.Native.Nat.{ℕ, _+_, _/_, _%_, _<_}
 use native.Mathlib.Omega.{arith}
 use lib.Bits.{bitAnd, and-mask, mask-lt}
 use lib.ListN.{length, drop, getD, length-drop}

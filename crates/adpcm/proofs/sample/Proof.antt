@@ -1,5 +1,5 @@
 -- `adpcm::sample` meets its contract: the sum, read back through the wrap, the shift and the clamp. Assumes nothing.
-use mathlib.Core.Path.{_≡_, ap, _∙_}
+use mathlib.Core.Path.{ap, _∙_}
 use lib.IntN.{ℤ}
 use lib.Signed.{shrZ}
 use mir.Syntax.{w16, w32, w64}

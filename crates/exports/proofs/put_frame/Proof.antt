@@ -1,7 +1,7 @@
 -- `exports::put_frame` is safe and ends: the slice keeps its length, and the index stays below it. Assumes nothing.
-use mathlib.Core.Path.{_≡_, refl, _∙_}
+use mathlib.Core.Path.{_≡_, refl}
 use Prim.Native.Nat.{_-_}
-use lib.ListN.{length, length-set}
+use lib.ListN.{length}
 use borrow.Author.Needs.{needs}
 use Rattle.exports.proofs.put_frame.Statement.{statement}
 use Rattle.exports.proofs.put_frame.Tie as tie

@@ -1,5 +1,5 @@
 -- `run_config::serve` is safe: what a configuration asks of the record is the test before it. Assumes nothing.
-use mathlib.Core.Path.{_≡_, sym, _∙_}
+use mathlib.Core.Path.{sym, _∙_}
 use Rattle.voice.proofs.Formed.{not-malformed-formed}
 use borrow.Author.Needs.{needs}
 use Rattle.run_config.proofs.serve.Statement.{statement}

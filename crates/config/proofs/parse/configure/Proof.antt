@@ -1,13 +1,7 @@
 -- `config::parse::configure` meets its contract: refused and untouched, or served whole. Assumes nothing.
-use mathlib.Core.Path.{_≡_, sym, ap, _∙_}
-use mathlib.Core.Bool.{true, false}
-use mathlib.Core.List.{List}
-use Prim.Native.Nat.{ℕ}
-use lib.Dec.{eqb}
+use mathlib.Core.Path.{sym, _∙_}
 use borrow.Author.Tests.{eq-eqb, ne-eqb}
 use Rattle.lists.proofs.Bools.{cond-yes, cond-no}
-use Rattle.voice.specs.declared.record.Voice.{Voice}
-use Rattle.config.specs.declared.parse.Configured.{Configured}
 use Rattle.config.specs.Parsed.{parsed, configured, bytesAfter}
 use Rattle.config.specs.Refusal.{refusal}
 use Rattle.config.proofs.Refused.{entries-fit}

@@ -1,8 +1,8 @@
 -- `config::parse::last_steps` meets its contract: the steps' equations, one put into the next. Assumes nothing.
-use mathlib.Core.Path.{_≡_, sym, ap, _∙_, subst}
+use mathlib.Core.Path.{sym, ap, _∙_, subst}
 use Prim.Native.Nat.{_≤_}
 use Rattle.voice.specs.declared.record.Voice.{Voice}
-use Rattle.config.specs.Steps.{formatStep, stereoStep, lengthenStep}
+use Rattle.config.specs.Steps.{stereoStep, lengthenStep}
 use Rattle.config.proofs.Room.{format-fits}
 use borrow.Author.Needs.{needs}
 use Rattle.config.proofs.parse.last_steps.Statement.{statement}

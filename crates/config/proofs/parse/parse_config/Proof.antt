@@ -8,7 +8,6 @@ use Rattle.voice.specs.declared.record.Entry.{Entry}
 use Rattle.voice.specs.declared.record.Voice.{Voice}
 use Rattle.config.specs.Entries.{added}
 use Rattle.config.specs.Parsed.{soundSteps, lastSteps, settled, parsed}
-use Rattle.config.specs.Refusal.{kept, toAdd}
 use Rattle.config.specs.Steps.{pushedAll}
 use Rattle.config.proofs.Room.{sound-room}
 use Rattle.config.proofs.Settled.{settled-queued, settled-entries}

@@ -4,7 +4,7 @@ use mathlib.Core.List.{List}
 use Prim.Native.Nat.{ℕ, _-_, _*_}
 use native.Mathlib.Omega.{arith}
 use lib.IntN.{ℤ, pos}
-use lib.ListN.{length, replicate}
+use lib.ListN.{replicate}
 use mir.Syntax.{w16}
 use mir.Val.{toZ, ofZ}
 use Rattle.lists.specs.Tabulate.{tabulate}
