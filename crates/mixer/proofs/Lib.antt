@@ -1,2 +1,3 @@
+pub mod Buses
 pub mod Outcomes
 pub mod Traps

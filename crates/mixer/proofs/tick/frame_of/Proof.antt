@@ -2,8 +2,7 @@
 use mathlib.Core.Path.{_≡_, sym, ap, _∙_, subst}
 use mathlib.Core.Bool.{false, cond}
 use mathlib.Core.List.{List}
-use Prim.Native.Nat.{ℕ, _+_, _*_, _<_}
-use native.Mathlib.Omega.{arith}
+use Prim.Native.Nat.{ℕ, _+_, _<_}
 use lib.Dec.{lit<}
 use lib.Ieee.{nan}
 use lib.ListN.{length, take, drop, getD}
@@ -14,6 +13,7 @@ use Rattle.mixer.specs.Mixes.{mixOf, wordsIn}
 use Rattle.mixer.specs.Downmix.{downmixed}
 use Rattle.mixer.specs.Tick.{heard, silence}
 use borrow.Author.Needs.{needs}
+use Rattle.mixer.proofs.Buses.{zeroth}
 use Rattle.mixer.proofs.tick.frame_of.Statement.{statement}
 use Rattle.mixer.proofs.tick.frame_of.Tie as tie
 
@@ -121,9 +121,6 @@ array-read-downmix-3 c = search needs
 
 downmix-requires-3 : tie.Need-downmix-requires-3
 downmix-requires-3 c κs = search needs
-
-zeroth : (n : ℕ) → n ≡ n + 0 * 2560
-zeroth n = omega arith
 
 volumes : (c : tie.Start) → length (c .args .state .volume) ≡ 3
 volumes c = search needs

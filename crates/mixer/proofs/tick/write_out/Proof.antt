@@ -2,13 +2,13 @@
 use mathlib.Core.Path.{_≡_, ap, _∙_}
 use mathlib.Core.Bool.{false, cond}
 use mathlib.Core.List.{List}
-use Prim.Native.Nat.{ℕ, _+_, _*_}
-use native.Mathlib.Omega.{arith}
+use Prim.Native.Nat.{ℕ, _+_}
 use lib.ListN.{getD}
 use Rattle.lists.specs.Splice.{splice}
 use Rattle.mixer.specs.Mixes.{mixOf, wordBytes, sampleBytes}
 use Rattle.mixer.specs.Tick.{sent}
 use borrow.Author.Needs.{needs}
+use Rattle.mixer.proofs.Buses.{zeroth}
 use Rattle.mixer.proofs.tick.write_out.Statement.{statement}
 use Rattle.mixer.proofs.tick.write_out.Tie as tie
 
@@ -56,9 +56,6 @@ put-frame-requires c κs = search needs
 
 same-length : tie.Need-same-length
 same-length c = search needs
-
-zeroth : (n : ℕ) → n ≡ n + 0 * 2560
-zeroth n = omega arith
 
 returns : tie.Need-returns
 returns c =
