@@ -7,3 +7,9 @@ pub mod Patterns
 pub mod Ranges
 pub mod Saturate
 pub mod Wraps
+pub mod Cell
+pub mod Floor
+pub mod Value
+pub mod Holding
+pub mod Halves
+pub mod Reach

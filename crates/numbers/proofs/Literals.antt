@@ -1,8 +1,11 @@
 -- The code's float literals, which it has by their bits, as the numbers they are: each is computed. Assumes nothing.
 use mathlib.Core.Path.{_≡_, refl}
 use mathlib.Core.Bool.{true, false}
-use lib.Ieee.{inf, binary32, binary64, ofBits, div, neg}
+use lib.IntN.{pos}
+use lib.Ieee.{inf, fin, binary32, binary64, ofBits, div, neg}
 use Rattle.numbers.specs.Literals.{+0, +1}
+use Rattle.numbers.specs.Held.{top, bottom}
+use Rattle.numbers.proofs.Floor.{big}
 
 pub zero-32 : ofBits binary32 0 ≡ +0
 unfolding ofBits
@@ -28,3 +31,20 @@ minus-infinity-32 = refl
 pub infinity-64 : div binary64 (ofBits binary64 0x3ff0_0000_0000_0000) (ofBits binary64 0) ≡ inf false
 unfolding div ofBits
 infinity-64 = refl
+
+-- 32767.0, -32768.0, 65536.0 and 8388608.0
+pub top-32 : ofBits binary32 0x46ff_fe00 ≡ top
+unfolding ofBits
+top-32 = refl
+
+pub bottom-32 : neg (ofBits binary32 0x4700_0000) ≡ bottom
+unfolding ofBits neg
+bottom-32 = refl
+
+pub two-to-16 : ofBits binary32 0x4780_0000 ≡ fin false 1 (pos 16)
+unfolding ofBits
+two-to-16 = refl
+
+pub big-32 : ofBits binary32 0x4b00_0000 ≡ big
+unfolding ofBits
+big-32 = refl

@@ -86,6 +86,17 @@ low-mod16 (negsuc n) h = turn n (h .sfits)
 pub low-is16 : (v : ℤ) → SFits w64 v → bitAnd (ofZ w64 v) 65535 ≡ modZ v 65536
 low-is16 v h = and-mask (ofZ w64 v) 16 ∙ low-mod16 v h
 
+-- and those of a number of 32
+low-mod32 : (v : ℤ) → SFits w32 v → ofZ w32 v % 65536 ≡ modZ v 65536
+low-mod32 (pos n) h = refl
+low-mod32 (negsuc n) h = turn n (h .sfits)
+  where
+    turn : (n : ℕ) → n < 2147483648 → (4294967296 - suc n) % 65536 ≡ 65536 - suc (n % 65536)
+    turn n h = omega arith
+
+pub low-is32 : (v : ℤ) → SFits w32 v → bitAnd (ofZ w32 v) 65535 ≡ modZ v 65536
+low-is32 v h = and-mask (ofZ w32 v) 16 ∙ low-mod32 v h
+
 -- bits as an unsigned number
 pub bits-fits : (w : Width) (x : ℕ) → x < 4294967296 → x < 2 ^ bits w → T (nonNeg (toZ w64 x)) × Fits w (natAbs (toZ w64 x))
 bits-fits w x h k = subst (λ (z : ℤ). T (nonNeg z) × Fits w (natAbs z)) (sym (small x h)) (tt, record { fits = k })

@@ -4,3 +4,4 @@ pub mod Literals
 pub mod Tests
 pub mod Within
 pub mod Wrap
+pub mod Held
