@@ -19,10 +19,7 @@ fn signed_nibble(n: u8) -> i64
     requires { ⌜ n < 16 ⌝ }
     ensures { λ r. ⌜ Is 8 (signedNibble n) r ⌝ }
 {
-    if n < 8 {
-        return n as i64;
-    }
-    (n as i64) - 16
+    (((n + 8) % 16) as i64) - 8
 }
 
 // Two to a power below 16.
@@ -91,6 +88,36 @@ fn decode_nibbles(
     last
 }
 
+// Decodes a whole frame, the two samples of a byte in a turn, by what its header says.
+fn decode_pairs(
+    frame: &[u8],
+    exponent: u8,
+    c1: i16,
+    c2: i16,
+    h: History,
+    samples: &mut [i16],
+) -> History
+    requires { ⌜ (length (now frame) ≡ 8) × ((length (now samples) ≡ 14) × (exponent < 16)) ⌝ }
+    ensures samples { λ _. ⌜ now (samples .exit) ≡ samplesOf sampleOf h (codesBy exponent c1 c2 (now (frame .entry))) ⌝ }
+    ensures history { λ r. ⌜ r ≡ historyAfter sampleOf h (codesBy exponent c1 c2 (now (frame .entry))) ⌝ }
+{
+    let mut last = h;
+    let mut i = 0;
+    while i < 7 {
+        let k = i * 2;
+        let b = frame[1 + i];
+        let y = sample(exponent, b / 16, c1, c2, last);
+        samples[k] = y;
+        let older = last.yn1;
+        let mid = History { yn1: y, yn2: older };
+        let z = sample(exponent, b % 16, c1, c2, mid);
+        samples[k + 1] = z;
+        last = History { yn1: z, yn2: y };
+        i += 1;
+    }
+    last
+}
+
 // The exponent of the scale that a header names.
 fn exponent_of(header: u8) -> u8
     ensures { λ r. ⌜ (r ≡ header % 16) × (r < 16) ⌝ }
@@ -116,6 +143,9 @@ fn decode_frame(frame: &[u8], coefficients: &[i16; 16], h: History, samples: &mu
     let predictor = predictor_of(header);
     let c1 = coefficients[predictor * 2];
     let c2 = coefficients[predictor * 2 + 1];
+    if samples.len() == 14 {
+        return decode_pairs(frame, exponent, c1, c2, h, samples);
+    }
     decode_nibbles(frame, exponent, c1, c2, h, samples)
 }
 
