@@ -1,3 +1,5 @@
 pub mod Buses
 pub mod Outcomes
 pub mod Traps
+pub mod Silent
+pub mod Ranged

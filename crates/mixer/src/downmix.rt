@@ -1,11 +1,13 @@
 // The final samples: the part of each mix, clamped, is added in turn and clamped again.
 use crate::state::Output;
-use numbers::casts::cast_i32;
+use numbers::casts::cast_clamped;
 use numbers::casts::single_of_i32;
 use numbers::whole::clamped;
 ghost use mathlib.Core.Path.{_≡_};
-ghost use Prim.Native.Nat.{_+_, _*_, _<_};
-ghost use lib.ListN.{length};
+ghost use Prim.Native.Nat.{ℕ, _+_, _*_, _<_};
+ghost use lib.IntN.{pos};
+ghost use lib.ListN.{length, getD};
+ghost use lib.Signed.{mag};
 ghost use Rattle.mixer.specs.Downmix.{at-volume, mono-part, stereo-part, added, partAt, downmixed};
 
 // A mix value at its mix's volume.
@@ -23,14 +25,14 @@ pub fn mono_part(volume: f32, a: i32, b: i32, c: i32, d: i32) -> i16
         + at_volume(volume, b)
         + at_volume(volume, c)
         + at_volume(volume, d);
-    clamped(cast_i32(sum / 2.0))
+    cast_clamped(sum / 2.0)
 }
 
 // What a mix adds to one side of a stereo output, by the two channels of that side.
 pub fn stereo_part(volume: f32, a: i32, c: i32) -> i16
     ensures { λ r. ⌜ r ≡ stereo-part volume a c ⌝ }
 {
-    clamped(cast_i32(at_volume(volume, a) + at_volume(volume, c)))
+    cast_clamped(at_volume(volume, a) + at_volume(volume, c))
 }
 
 // A value so far, and the next mix's part.
@@ -69,8 +71,7 @@ fn parts_of(output: Output, volume: f32, mix: &[i32], i: usize) -> Parts
     }
 }
 
-// Adds a mix to the frame at a volume.
-pub fn downmix(frame: &mut [i16], mix: &[i32], volume: f32, output: Output)
+fn mix_in(frame: &mut [i16], mix: &[i32], volume: f32, output: Output)
     requires { ⌜ (length (now frame) ≡ 320) × (length (now mix) ≡ 640) ⌝ }
     ensures { λ _. ⌜ now (frame .exit) ≡ downmixed output volume (now (mix .entry)) (now (frame .entry)) ⌝ }
 {
@@ -84,4 +85,38 @@ pub fn downmix(frame: &mut [i16], mix: &[i32], volume: f32, output: Output)
         frame[k + 1] = right;
         i += 1;
     }
+}
+
+// That all values of a frame or a mix are numbers of its type: nothing is done with them, and the compiler leaves nothing of the loop.
+fn ranged16(values: &[i16])
+    ensures { λ _. ⌜ ((k : ℕ) → mag (getD (now (values .entry)) k (pos 0)) < 32768) ⌝ }
+{
+    let mut i = 0;
+    while i < values.len() {
+        let seen = values[i];
+        i += 1;
+    }
+}
+
+fn ranged32(values: &[i32])
+    ensures { λ _. ⌜ ((k : ℕ) → mag (getD (now (values .entry)) k (pos 0)) < 2147483648) ⌝ }
+{
+    let mut i = 0;
+    while i < values.len() {
+        let seen = values[i];
+        i += 1;
+    }
+}
+
+// Adds a mix to the frame at a volume. At 0.0 it adds nothing.
+pub fn downmix(frame: &mut [i16], mix: &[i32], volume: f32, output: Output)
+    requires { ⌜ (length (now frame) ≡ 320) × (length (now mix) ≡ 640) ⌝ }
+    ensures { λ _. ⌜ now (frame .exit) ≡ downmixed output volume (now (mix .entry)) (now (frame .entry)) ⌝ }
+{
+    if volume == 0.0 {
+        ranged16(frame);
+        ranged32(mix);
+        return;
+    }
+    mix_in(frame, mix, volume, output);
 }

@@ -2,7 +2,7 @@
 use mathlib.Core.Path.{_≡_, refl, ap, _∙_}
 use lib.IntN.{pos}
 use lib.Ieee.{binary32, ofBits, ofInt, add, div}
-use mir.Syntax.{w16, w32}
+use mir.Syntax.{w16}
 use mir.Facts.{toZ-ofZ}
 use borrow.Author.Needs.{needs}
 use Rattle.numbers.specs.Casts.{cast-i32, single}
@@ -29,26 +29,21 @@ at-volume-requires-3 c κs = search needs
 at-volume-requires-4 : tie.Need-at-volume-requires-4
 at-volume-requires-4 c κs = search needs
 
-cast-i32-requires : tie.Need-cast-i32-requires
-cast-i32-requires c κs = search needs
-
-clamped-requires : tie.Need-clamped-requires
-clamped-requires c κs = search needs
+cast-clamped-requires : tie.Need-cast-clamped-requires
+cast-clamped-requires c κs = search needs
 
 returns : tie.Need-returns
 unfolding mono-part
 returns c =
-    let calls = c .before .before in
+    let calls = c .before in
     let start = calls .before .before .before .before in
     let v = start .args .volume in
     let a' = calls .before .before .before .at-volume .ensures ∙ ap (at-volume v) (toZ-ofZ (start .fits .a)) in
     let b' = calls .before .before .at-volume2 .ensures ∙ ap (at-volume v) (toZ-ofZ (start .fits .b)) in
     let c' = calls .before .at-volume3 .ensures ∙ ap (at-volume v) (toZ-ofZ (start .fits .c)) in
     let d' = calls .at-volume4 .ensures ∙ ap (at-volume v) (toZ-ofZ (start .fits .d)) in
-    let r = c .before .cast-i32 in
-    result-read w16 (c .clamped .result) (c .clamped .ok)
-    ∙ c .clamped .ensures
-    ∙ ap clamp16 (result-read w32 (r .result) (r .ok) ∙ r .ensures)
+    result-read w16 (c .cast-clamped .result) (c .cast-clamped .ok)
+    ∙ c .cast-clamped .ensures
     ∙ (λ k. clamp16 (cast-i32 (div binary32 (add binary32 (add binary32 (add binary32 (a' k) (b' k)) (c' k)) (d' k)) (two-is k))))
 
 pub mono-part-spec : {M : Type 1} → statement M
@@ -59,6 +54,5 @@ mono-part-spec =
     at-volume-requires-2
     at-volume-requires-3
     at-volume-requires-4
-    cast-i32-requires
-    clamped-requires
+    cast-clamped-requires
     returns)
