@@ -1,0 +1,5 @@
+// A voice's frame mixed into the mixes.
+pub mod cut;
+pub mod fade;
+pub mod ranged;
+pub mod steady;
