@@ -1,16 +1,16 @@
--- The whole part of a number from 0 to 2 ^ 15 by two additions: at 2 ^ 23 and above an f32 has no digit below 1, so a + 2 ^ 23 is a whole number next to it,
--- and 2 ^ 23 comes off it exactly. What is left is the whole part, or one more where it lies above a. Assumes nothing.
+-- The whole part of a number from 0 to M by two additions, in either format: at 2 ^ h and above (h = 23 in f32, 52 in f64) it has no digit below 1, so
+-- a + 2 ^ h is a whole number next to it, and 2 ^ h comes off it exactly. What is left is the whole part, or one more where it lies above a. Assumes nothing.
 use mathlib.Core.Path.{_≡_, refl, sym, ap, _∙_, subst}
 use mathlib.Core.Bool.{Bool, true, false, not, _&&_, cond, true≢false}
 use mathlib.Core.Logic.{⊎-elim}
-use Prim.Native.Nat.{ℕ, suc, _+_, _-_, _*_, _/_, _%_, _^_, _≤_, _<_}
-use native.Mathlib.Nat.{le-trans, le-of-eq, lt-of-lt-of-le, lt-of-le-of-lt, lt-irrefl, not-le-of-lt, mul-one, one-mul, zero-mul, zero-add, mul-comm, mul-assoc, mul-right-comm, mul-pos, mul-le-mul-right, mul-lt-mul-of-pos-right, le-of-mul-le-mul-right, lt-of-mul-lt-mul-right, eq-of-mul-eq-mul-right, le-div-iff-mul-le, div-mul-le-self, div-lt-iff-lt-mul, zero-lt-suc, add-mul}
+use Prim.Native.Nat.{ℕ, zero, suc, _+_, _-_, _*_, _/_, _%_, _^_, _≤_, _<_}
+use native.Mathlib.Nat.{le-trans, le-of-eq, lt-of-lt-of-le, lt-of-le-of-lt, lt-irrefl, not-le-of-lt, mul-one, one-mul, zero-mul, zero-add, mul-comm, mul-assoc, mul-right-comm, mul-pos, mul-le-mul-right, mul-lt-mul-of-pos-right, le-of-mul-le-mul-right, lt-of-mul-lt-mul-right, eq-of-mul-eq-mul-right, le-div-iff-mul-le, div-mul-le-self, div-lt-iff-lt-mul, zero-lt-suc, add-mul, pow-succ'}
 use native.Mathlib.Omega.{arith}
-use lib.IntN.{ℤ, pos}
-use lib.Dec.{T, ltb, lit<, lit≤}
+use lib.IntN.{ℤ, pos, negℤ}
+use lib.Dec.{T, ltb}
 use lib.Pow.{pow-pos, pow-add, pow-mono}
 use borrow.Author.Tests.{lt-ltb, le-ltb, ltb-true, ltb-false}
-use lib.Ieee.{Float, nan, inf, fin, Format, binary32, prec, emax, low, up, down, size, round, sum, add, sub, ofInt, lt, below}
+use lib.Ieee.{Float, nan, inf, fin, Format, prec, emax, low, up, down, size, round, sum, add, sub, ofInt, lt, below}
 use lib.Ieee.Digits.{size-lt}
 use lib.Ieee.Fits.{down-pos}
 use lib.Ieee.Exact.{HasValue}
@@ -19,13 +19,14 @@ use lib.Ieee.Scale.{grid, overflow}
 use lib.Ieee.Back.{round-whole}
 use Rattle.lists.proofs.Bools.{cond-yes}
 use Rattle.lists.proofs.Walk.{below-or}
-use Rattle.numbers.specs.Held.{Small, wholeOf}
+use Rattle.numbers.specs.Literals.{+0}
+use Rattle.numbers.specs.Held.{Upto, wholeOf}
 use Rattle.numbers.proofs.Cell.{drops, cell-le, cell-ge, round-value}
 use Rattle.numbers.proofs.Value.{add-value, sub-value}
 
--- 2 ^ 23
-abbrev pub big : Float
-big = fin false 1 (pos 23)
+-- 2 ^ h
+abbrev pub big : ℕ → Float
+big h = fin false 1 (pos h)
 
 -- a fraction whose denominator comes off
 lowered : (x : Float) (s : Bool) (a k : ℕ) → 0 < k → HasValue x s (a * k) k → HasValue x s a 1
@@ -33,118 +34,133 @@ lowered nan s a k K h = h
 lowered (inf t) s a k K h = h
 lowered (fin t m e) s a k K h = (h .0, eq-of-mul-eq-mul-right k K (m * up e * 1) (a * down e) (mul-right-comm (m * up e) 1 k ∙ mul-one (m * up e * k) ∙ h .1 ∙ mul-right-comm a k (down e)))
 
--- 2 ^ 23 off a whole number, and on to a number that is no less than 0
-off-exact : (k : ℕ) → 8388608 ≤ k → sum binary32 false k true 8388608 1 ≡ ofInt binary32 (pos (k - 8388608))
-unfolding sum ofInt
-off-exact k h = rw (le-ltb k 8388608 h)
-
-on : (s : Bool) (p q : ℕ) → 0 < q → (s ≡ true → p ≡ 0) → sum binary32 s p false (8388608 * q) q ≡ round binary32 false (p + 8388608 * q) q
-unfolding sum
-on false p q Q z = refl
-on true p q Q z =
-    ap (λ (x : ℕ). sum binary32 true x false (8388608 * q) q) (z refl)
-    ∙ cond-yes (round binary32 false (8388608 * q - 0) q) (round binary32 (true && ltb (8388608 * q) 0) (0 - 8388608 * q) q) (lt-ltb 0 (8388608 * q) positive)
-    ∙ ap (λ (x : ℕ). round binary32 false x q) all
-  where
-    positive : 0 < 8388608 * q
-    positive = omega arith
-
-    all : 8388608 * q - 0 ≡ p + 8388608 * q
-    all = omega (arith, z refl)
-
 -- sums at L times the size
-times-lt : (n P q L : ℕ) → 0 < L → n < P * q → n * L < P * L * q
+pub times-lt : (n P q L : ℕ) → 0 < L → n < P * q → n * L < P * L * q
 times-lt n P q L K h = lt-of-lt-of-le (mul-lt-mul-of-pos-right h K) (le-of-eq (mul-right-comm P q L))
 
-times-le : (n P q L : ℕ) → n ≤ P * q → n * L ≤ P * L * q
+pub times-le : (n P q L : ℕ) → n ≤ P * q → n * L ≤ P * L * q
 times-le n P q L h = le-trans (mul-le-mul-right L h) (le-of-eq (mul-right-comm P q L))
 
-times-ge : (n P q L : ℕ) → P * q ≤ n → P * L * q ≤ n * L
+pub times-ge : (n P q L : ℕ) → P * q ≤ n → P * L * q ≤ n * L
 times-ge n P q L h = le-trans (le-of-eq (mul-right-comm P L q)) (mul-le-mul-right L h)
 
-module _ (p q : ℕ) (Q : 0 < q) (small : p ≤ 32768 * q) where
-  abbrev n : ℕ
-  n = p + 8388608 * q
+-- a whole number off another that is no less
+off-exact : (f : Format) (k j : ℕ) → j ≤ k → sum f false k true j 1 ≡ ofInt f (pos (k - j))
+unfolding sum ofInt
+off-exact f k j l = rw (le-ltb k j l)
 
-  abbrev fl : ℕ
-  fl = p / q
+-- the format keeps h digits below the leading one, and reaches past 2 ^ (h + 1)
+module _ (f : Format) (h : ℕ) (P : prec f ≡ suc h) (E : h ≤ emax f) where
+  abbrev B : ℕ
+  B = 2 ^ h
 
-  fl-le : fl * q ≤ p
-  fl-le = div-mul-le-self p q
-
-  fl-most : fl ≤ 32768
-  fl-most = le-of-mul-le-mul-right (le-trans fl-le small) Q
-
-  fl-next : p < (fl + 1) * q
-  fl-next = div-lt-iff-lt-mul Q .0 one-more
+  -- 2 ^ h on to a number that is no less than 0
+  on : (s : Bool) (p q : ℕ) → 0 < q → (s ≡ true → p ≡ 0) → sum f s p false (B * q) q ≡ round f false (p + B * q) q
+  unfolding sum
+  on false p q Q z = refl
+  on true p q Q z =
+      ap (λ (x : ℕ). sum f true x false (B * q) q) (z refl)
+      ∙ cond-yes (round f false (B * q - 0) q) (round f (true && ltb (B * q) 0) (0 - B * q) q) (lt-ltb 0 (B * q) (mul-pos (pow-pos h) Q))
+      ∙ ap (λ (x : ℕ). round f false x q) all
     where
-      one-more : fl < fl + 1
-      one-more = omega arith
+      all : B * q - 0 ≡ p + B * q
+      all = omega (arith, z refl)
 
-  room : n * 2 ^ 149 < 2 ^ (24 + 149) * q
-  room = times-lt n 16777216 q (2 ^ 149) (pow-pos 149) less
-    where
-      less : n < 16777216 * q
-      less = omega arith
+  double : 2 ^ prec f ≡ 2 * B
+  double = ap (λ (x : ℕ). 2 ^ x) P ∙ pow-succ' 2 h
 
-  abbrev K : ℕ
-  K = kept 24 (n * 2 ^ 149) q
+  module _ (M : ℕ) (fit : M + 1 < B) (p q : ℕ) (Q : 0 < q) (small : p ≤ M * q) where
+    abbrev n : ℕ
+    n = p + B * q
 
-  drop-is : drop 24 (n * 2 ^ 149) q ≡ 149
-  drop-is = both (drop 24 (n * 2 ^ 149) q) (size (n * 2 ^ 149 / q)) (drops binary32 n q 149 Q room) refl (⊎-elim (λ h. absurd (few h)) (λ h. h) (below-or (size (n * 2 ^ 149 / q)) 173))
-    where
-      both : (d z : ℕ) → d ≤ 149 → d ≡ z - 24 → 173 ≤ z → d ≡ 149
-      both d z h e k = omega arith
+    abbrev fl : ℕ
+    fl = p / q
 
-      many : 8388608 * q ≤ n
-      many = omega arith
+    abbrev L : ℕ
+    L = 2 ^ low f
 
-      digits : 2 ^ 172 ≤ n * 2 ^ 149 / q
-      digits = le-div-iff-mul-le Q .1 (times-ge n 8388608 q (2 ^ 149) many)
+    fl-le : fl * q ≤ p
+    fl-le = div-mul-le-self p q
 
-      few : size (n * 2 ^ 149 / q) < 173 → ⊥
-      few h = not-le-of-lt (lt-of-lt-of-le (size-lt (n * 2 ^ 149 / q)) (pow-mono {i = size (n * 2 ^ 149 / q)} {j = 172} (omega arith))) digits
+    fl-most : fl ≤ M
+    fl-most = le-of-mul-le-mul-right (le-trans fl-le small) Q
 
-  grid-is : grid binary32 n q ≡ K * 2 ^ 149
-  grid-is = ap (λ (k : ℕ). K * 2 ^ k) drop-is
+    fl-next : p < (fl + 1) * q
+    fl-next = div-lt-iff-lt-mul Q .0 one-more
+      where
+        one-more : fl < fl + 1
+        one-more = omega arith
 
-  K-ge : 8388608 + fl ≤ K
-  K-ge = le-of-mul-le-mul-right (subst (λ (g : ℕ). (8388608 + fl) * 2 ^ 149 ≤ g) grid-is (cell-ge binary32 n q 149 Q room (8388608 + fl) (times-ge n (8388608 + fl) q (2 ^ 149) under))) (pow-pos 149)
-    where
-      under : (8388608 + fl) * q ≤ n
-      under = rw (add-mul 8388608 fl q) (omega (arith, fl-le))
+    room : n * L < 2 ^ (prec f + low f) * q
+    room = subst (λ (x : ℕ). n * L < x * q) (sym (pow-add 2 (prec f) (low f))) (times-lt n (2 ^ prec f) q L (pow-pos (low f)) (subst (λ (x : ℕ). n < x * q) (sym double) less))
+      where
+        most : M * q < B * q
+        most = mul-lt-mul-of-pos-right (omega (arith, fit)) Q
 
-  grid-le : grid binary32 n q ≤ (8388608 + (fl + 1)) * 2 ^ 149
-  grid-le = cell-le binary32 n q 149 Q room (8388608 + (fl + 1)) (times-le n (8388608 + (fl + 1)) q (2 ^ 149) over)
-    where
-      over : n ≤ (8388608 + (fl + 1)) * q
-      over = rw (add-mul 8388608 (fl + 1) q) (omega (arith, fl-next))
+        less : n < 2 * B * q
+        less = rw (mul-assoc 2 B q) (omega (arith, most))
 
-  K-le : K ≤ 8388608 + (fl + 1)
-  K-le = le-of-mul-le-mul-right (subst (λ (g : ℕ). g ≤ (8388608 + (fl + 1)) * 2 ^ 149) grid-is grid-le) (pow-pos 149)
+    abbrev K : ℕ
+    K = kept (prec f) (n * L) q
 
-  rounded : HasValue (round binary32 false n q) false K 1
-  rounded =
-      lowered (round binary32 false n q) false K (2 ^ 149) (pow-pos 149)
-      (subst (λ (g : ℕ). HasValue (round binary32 false n q) false g (2 ^ 149)) grid-is (round-value binary32 false n q (lt-of-le-of-lt grid-le (mul-lt-mul-of-pos-right far (pow-pos 149)))))
-    where
-      near : 8388608 + (fl + 1) ≤ 8421377
-      near = omega (arith, fl-most)
+    drop-is : drop (prec f) (n * L) q ≡ low f
+    drop-is = both (drop (prec f) (n * L) q) (size (n * L / q)) (prec f) (low f) (drops f n q (low f) Q room) refl (⊎-elim (λ x. absurd (few x)) (λ x. x) (below-or (size (n * L / q)) (prec f + low f)))
+      where
+        both : (d z P l : ℕ) → d ≤ l → d ≡ z - P → P + l ≤ z → d ≡ l
+        both d z P l x e k = omega arith
 
-      far : 8388608 + (fl + 1) < 2 ^ 128
-      far = lt-of-le-of-lt near (lit< tt)
+        many : B * q ≤ n
+        many = omega arith
 
-  taken-off : sub binary32 (round binary32 false n q) big ≡ ofInt binary32 (pos (K - 8388608))
-  taken-off = sub-value binary32 (round binary32 false n q) big false false K 8388608 1 (zero-lt-suc 0) rounded (refl, refl) ∙ off-exact K enough
-    where
-      enough : 8388608 ≤ K
-      enough = le-trans at-least K-ge
-        where
-          at-least : 8388608 ≤ 8388608 + fl
-          at-least = omega arith
+        digits : 2 ^ (h + low f) ≤ n * L / q
+        digits = le-div-iff-mul-le Q .1 (subst (λ (x : ℕ). x * q ≤ n * L) (sym (pow-add 2 h (low f))) (times-ge n B q L many))
 
--- ---- a number from 0 to 2 ^ 15: the two additions leave a whole number k, the whole part or one more, and the test against it tells which
-scaled-less : (p x d : ℕ) → 0 < d → ltb (p * d) (x * d) ≡ ltb p x
+        few : size (n * L / q) < prec f + low f → ⊥
+        few x = not-le-of-lt (lt-of-lt-of-le (size-lt (n * L / q)) (pow-mono {i = size (n * L / q)} {j = h + low f} (under (size (n * L / q)) (prec f) (low f) x P))) digits
+          where
+            under : (z c l : ℕ) → z < c + l → c ≡ suc h → z ≤ h + l
+            under z c l x e = omega arith
+
+    grid-is : grid f n q ≡ K * L
+    grid-is = ap (λ (k : ℕ). K * 2 ^ k) drop-is
+
+    K-ge : B + fl ≤ K
+    K-ge = le-of-mul-le-mul-right (subst (λ (g : ℕ). (B + fl) * L ≤ g) grid-is (cell-ge f n q (low f) Q room (B + fl) (times-ge n (B + fl) q L under))) (pow-pos (low f))
+      where
+        under : (B + fl) * q ≤ n
+        under = rw (add-mul B fl q) (omega (arith, fl-le))
+
+    grid-le : grid f n q ≤ (B + (fl + 1)) * L
+    grid-le = cell-le f n q (low f) Q room (B + (fl + 1)) (times-le n (B + (fl + 1)) q L over)
+      where
+        over : n ≤ (B + (fl + 1)) * q
+        over = rw (add-mul B (fl + 1) q) (omega (arith, fl-next))
+
+    K-le : K ≤ B + (fl + 1)
+    K-le = le-of-mul-le-mul-right (subst (λ (g : ℕ). g ≤ (B + (fl + 1)) * L) grid-is grid-le) (pow-pos (low f))
+
+    rounded : HasValue (round f false n q) false K 1
+    rounded =
+        lowered (round f false n q) false K L (pow-pos (low f))
+        (subst (λ (g : ℕ). HasValue (round f false n q) false g L) grid-is (round-value f false n q (lt-of-le-of-lt grid-le (subst (λ (x : ℕ). (B + (fl + 1)) * L < x) all (mul-lt-mul-of-pos-right far (pow-pos (low f)))))))
+      where
+        far : B + (fl + 1) < 2 ^ suc (emax f)
+        far = lt-of-lt-of-le (rw (pow-succ' 2 h) (omega (arith, fl-most, fit))) (pow-mono {i = suc h} {j = suc (emax f)} (omega (arith, E)))
+
+        all : 2 ^ suc (emax f) * L ≡ overflow f
+        all = mul-comm (2 ^ suc (emax f)) L ∙ sym (pow-add 2 (low f) (suc (emax f)))
+
+    taken-off : sub f (round f false n q) (big h) ≡ ofInt f (pos (K - B))
+    taken-off = sub-value f (round f false n q) (big h) false false K B 1 (zero-lt-suc 0) rounded (refl, ap (λ (x : ℕ). x * 1) (one-mul B)) ∙ off-exact f K B enough
+      where
+        enough : B ≤ K
+        enough = le-trans at-least K-ge
+          where
+            at-least : B ≤ B + fl
+            at-least = omega arith
+
+-- ---- the two additions leave a whole number k, the whole part or one more, and the test against it tells which
+pub scaled-less : (p x d : ℕ) → 0 < d → ltb (p * d) (x * d) ≡ ltb p x
 scaled-less p x d D = go (ltb p x) refl
   where
     go : (b : Bool) → ltb p x ≡ b → ltb (p * d) (x * d) ≡ b
@@ -161,42 +177,59 @@ below-is s p n q d k D z e = go s z
     go false z = ap (ltb (p * d)) across ∙ scaled-less p (k * q) d D
     go true z = rw (z refl, zero-mul d, zero-add (n * q), across) (ap (λ (x : ℕ). ltb x (k * q * d)) (sym (zero-mul d)) ∙ scaled-less 0 (k * q) d D)
 
-lt-is : (s : Bool) (m : ℕ) (e : ℤ) (y : Float) (k : ℕ) → HasValue y false k 1 → (s ≡ true → m * up e ≡ 0) → lt (fin s m e) y ≡ ltb (m * up e) (k * down e)
+pub lt-is : (s : Bool) (m : ℕ) (e : ℤ) (y : Float) (k : ℕ) → HasValue y false k 1 → (s ≡ true → m * up e ≡ 0) → lt (fin s m e) y ≡ ltb (m * up e) (k * down e)
 unfolding lt
 lt-is s m e nan k h z = absurd h
 lt-is s m e (inf t) k h z = absurd h
 lt-is s m e (fin t n d) k h z = rw (h .0) (below-is s (m * up e) (n * up d) (down e) (down d) k (down-pos d) z (h .1))
 
-pub record Floored (a : Float) : Type 0 where
+pub record Floored (f : Format) (h M : ℕ) (a : Float) : Type 0 where
   pub k : ℕ
-  pub is : sub binary32 (add binary32 a big) big ≡ ofInt binary32 (pos k)
-  pub most : k ≤ 32769
-  pub whole-most : wholeOf a ≤ 32768
-  pub over : lt a (ofInt binary32 (pos k)) ≡ true → k ≡ wholeOf a + 1
-  pub not-over : lt a (ofInt binary32 (pos k)) ≡ false → k ≡ wholeOf a
+  pub is : sub f (add f a (big h)) (big h) ≡ ofInt f (pos k)
+  pub most : k ≤ M + 1
+  pub whole-most : wholeOf a ≤ M
+  pub over : lt a (ofInt f (pos k)) ≡ true → k ≡ wholeOf a + 1
+  pub not-over : lt a (ofInt f (pos k)) ≡ false → k ≡ wholeOf a
 
-whole-value : (k : ℕ) → k ≤ 16777216 → HasValue (ofInt binary32 (pos k)) false k 1
+pub whole-value : (f : Format) (k : ℕ) → k ≤ 2 ^ prec f → HasValue (ofInt f (pos k)) false k 1
 unfolding ofInt
-whole-value k h = round-whole binary32 false k h
+whole-value f k h = round-whole f false k h
 
-pub floored : (a : Float) → Small a → Floored a
-floored nan h = absurd h
-floored (inf s) h = absurd h
-floored (fin s m e) h =
+-- a float of the value j off a whole number, and a whole number off 0
+pub sub-whole : (f : Format) (k j : ℕ) (y : Float) → k ≤ 2 ^ prec f → j ≤ k → HasValue y false j 1 → sub f (ofInt f (pos k)) y ≡ ofInt f (pos (k - j))
+sub-whole f k j y few l v = sub-value f (ofInt f (pos k)) y false false k j 1 (zero-lt-suc 0) (whole-value f k few) v ∙ off-exact f k j l
+
+minus : (f : Format) (k : ℕ) → sum f false 0 true k 1 ≡ ofInt f (negℤ (pos k))
+unfolding sum ofInt
+minus f zero = refl
+minus f (suc k) =
+    cond-yes (round f true (suc k - 0) 1) (round f (false && ltb (suc k) 0) (0 - suc k) 1) (lt-ltb 0 (suc k) (zero-lt-suc k)) ∙ ap (λ (x : ℕ). round f true x 1) all
+  where
+    all : suc k - 0 ≡ suc k
+    all = omega arith
+
+pub minus-whole : (f : Format) (k : ℕ) → k ≤ 2 ^ prec f → sub f +0 (ofInt f (pos k)) ≡ ofInt f (negℤ (pos k))
+minus-whole f k few = sub-value f +0 (ofInt f (pos k)) false false 0 k 1 (zero-lt-suc 0) (refl, refl) (whole-value f k few) ∙ minus f k
+
+pub floored : (f : Format) (h : ℕ) → prec f ≡ suc h → h ≤ emax f → (M : ℕ) → M + 1 < 2 ^ h → (a : Float) → Upto M a → Floored f h M a
+floored f h P E M fit nan u = absurd u
+floored f h P E M fit (inf s) u = absurd u
+floored f h P E M fit (fin s m e) u =
     let p = m * up e in
     let q = down e in
     let Q = down-pos e in
-    let ge = K-ge p q Q (h .1) in
-    let le = K-le p q Q (h .1) in
-    let f = fl-most p q Q (h .1) in
-    let k = K p q Q (h .1) - 8388608 in
-    let few : k ≤ 16777216 = omega arith in
-    let test = lt-is s m e (ofInt binary32 (pos k)) k (whole-value k few) (h .0) in
+    let b = 2 ^ h in
+    let ge = K-ge f h P E M fit p q Q (u .1) in
+    let le = K-le f h P E M fit p q Q (u .1) in
+    let l = fl-most f h P E M fit p q Q (u .1) in
+    let k = K f h P E M fit p q Q (u .1) - b in
+    let few : k ≤ 2 ^ prec f = rw (double f h P E) (omega arith) in
+    let test = lt-is s m e (ofInt f (pos k)) k (whole-value f k few) (u .0) in
     record {
       k = k;
-      is = ap (λ (x : Float). sub binary32 x big) (add-value binary32 (fin s m e) big s false p (8388608 * q) q Q (refl, refl) (refl, sym (mul-one (8388608 * q))) ∙ on s p q Q (h .0)) ∙ taken-off p q Q (h .1);
+      is = ap (λ (x : Float). sub f x (big h)) (add-value f (fin s m e) (big h) s false p (b * q) q Q (refl, refl) (refl, ap (λ (x : ℕ). x * q) (one-mul b) ∙ sym (mul-one (b * q))) ∙ on f h P E s p q Q (u .0)) ∙ taken-off f h P E M fit p q Q (u .1);
       most = omega arith;
-      whole-most = f;
+      whole-most = l;
       over = λ t. (
           let l : p / q < k = lt-of-mul-lt-mul-right q (lt-of-le-of-lt (div-mul-le-self p q) (ltb-true p (k * q) (sym test ∙ t))) in
           omega arith);

@@ -5,13 +5,17 @@ use Prim.Native.Nat.{ℕ, zero, suc, _+_, _-_, _*_, _/_, _^_, _≤_, _<_, min}
 use native.Mathlib.Nat.{le-trans, mul-one, one-mul, zero-div, div-lt-iff-lt-mul, le-div-iff-mul-le, mul-comm, mul-pos}
 use native.Mathlib.Omega.{arith}
 use lib.IntN.{ℤ, pos, negsuc, negℤ}
-use lib.Dec.{T, ltb, eqb, lit≤}
-use lib.Signed.{ltZ}
+use lib.Dec.{T, ltb, eqb, lit≤, le→leb, lt→ltb}
+use lib.Signed.{ltZ, mag}
+use lib.Ieee.Back.{positive-back, negative-back}
+use Rattle.numbers.proofs.Floor.{minus-whole}
 use borrow.Author.Tests.{eq-eqb, lt-ltb, le-ltb, ltb-true, ltb-false}
-use lib.Ieee.{Float, nan, inf, fin, up, down, lt, eq, neg, toSigned}
+use lib.Ieee.{Float, nan, inf, fin, up, down, lt, eq, neg, sub, ofInt, inSigned, inFloat, binary64, toSigned, toUnsigned}
 use lib.Ieee.Fits.{down-pos}
+use mathlib.Core.Logic.{⊎-elim}
+use Rattle.lists.proofs.Walk.{below-or}
 use Rattle.numbers.specs.Literals.{+0}
-use Rattle.numbers.specs.Held.{top, bottom, at-most, at-least, held, sizeOf, Small, wholeOf, withSign}
+use Rattle.numbers.specs.Held.{top, bottom, at-most, at-least, held, sizeOf, Upto, Small, wholeOf, withSign, at-least-0, top-u32, at-most-u32}
 use Rattle.numbers.specs.Wrap.{clamp16}
 
 clamp-pos : (k : ℕ) → k ≤ 32767 → clamp16 (pos k) ≡ pos k
@@ -164,3 +168,114 @@ holds (inf true) = from (inf true) bottom (fin false 1 (pos 15)) refl refl ((λ 
 holds (inf false) = from (inf false) top top refl refl ((λ (u : false ≡ true). absurd (true≢false (sym u))), lit≤ tt) refl
 holds (fin false m e) = positive-case m e (lt (fin false m e) top) refl
 holds (fin true m e) = negative-case m e (lt bottom (fin true m e)) (lt (fin true m e) +0) refl refl
+
+-- the cast to 32 bits, clamped to 16, is the cast to 16
+pub clamped-cast : (x : Float) → clamp16 (toSigned 31 x) ≡ toSigned 15 x
+unfolding toSigned
+clamped-cast nan = refl
+clamped-cast (inf true) = refl
+clamped-cast (inf false) = refl
+clamped-cast (fin false m e) = ⊎-elim few many (below-or (m * up e / down e) 32767)
+  where
+    few : m * up e / down e < 32767 → clamp16 (pos (min (m * up e / down e) 2147483647)) ≡ pos (min (m * up e / down e) 32767)
+    few h =
+        let i : min (m * up e / down e) 2147483647 ≡ min (m * up e / down e) 32767 = omega arith in
+        clamp-pos (min (m * up e / down e) 2147483647) (omega arith) ∙ ap pos i
+
+    many : 32767 ≤ m * up e / down e → clamp16 (pos (min (m * up e / down e) 2147483647)) ≡ pos (min (m * up e / down e) 32767)
+    many h =
+        let i : 32767 ≡ min (m * up e / down e) 32767 = omega arith in
+        clamp-over (min (m * up e / down e) 2147483647) (omega arith) ∙ ap pos i
+clamped-cast (fin true m e) = ⊎-elim few many (below-or (m * up e / down e) 32768)
+  where
+    few : m * up e / down e < 32768 → clamp16 (negℤ (pos (min (m * up e / down e) 2147483648))) ≡ negℤ (pos (min (m * up e / down e) 32768))
+    few h =
+        let i : min (m * up e / down e) 2147483648 ≡ min (m * up e / down e) 32768 = omega arith in
+        clamp-neg (min (m * up e / down e) 2147483648) (omega arith) ∙ ap (λ (k : ℕ). negℤ (pos k)) i
+
+    many : 32768 ≤ m * up e / down e → clamp16 (negℤ (pos (min (m * up e / down e) 2147483648))) ≡ negℤ (pos (min (m * up e / down e) 32768))
+    many h =
+        let i : 32768 ≡ min (m * up e / down e) 32768 = omega arith in
+        clamp-under (min (m * up e / down e) 2147483648) (omega arith) ∙ ap (λ (k : ℕ). negℤ (pos k)) i
+
+-- ---- to 32 bits with no sign: held from 0 to 4294967295
+record HoldsU (x : Float) : Type 0 where
+  pub upto : Upto 4294967295 (at-most-u32 (at-least-0 x))
+  pub is : wholeOf (at-most-u32 (at-least-0 x)) ≡ toUnsigned 32 x
+
+from-u : (x z : Float) → at-most-u32 (at-least-0 x) ≡ z → Upto 4294967295 z → wholeOf z ≡ toUnsigned 32 x → HoldsU x
+from-u x z h u is = record { upto = subst (λ (a : Float). Upto 4294967295 a) (sym h) u; is = ap (λ (a : Float). wholeOf a) h ∙ is }
+
+zero-held : at-most-u32 +0 ≡ +0
+unfolding lt
+zero-held = refl
+
+module _ (m : ℕ) (e : ℤ) where
+  above-zero : ltb (0 * 1 * down e) (m * up e * 1) ≡ lt +0 (fin false m e)
+  unfolding lt
+  above-zero = refl
+
+  under-top-u32 : ltb (m * up e * 1) (4294967295 * 1 * down e) ≡ lt (fin false m e) top-u32
+  unfolding lt
+  under-top-u32 = refl
+
+  positive-u : (b c : Bool) → lt +0 (fin false m e) ≡ b → lt (fin false m e) top-u32 ≡ c → HoldsU (fin false m e)
+  unfolding toUnsigned
+  positive-u false c h g =
+      let k : m * up e * 1 ≤ 0 * 1 * down e = ltb-false (0 * 1 * down e) (m * up e * 1) (above-zero ∙ h) in
+      let z : m * up e ≡ 0 = omega arith in
+      let r : m * up e / down e ≡ 0 = ap (λ (n : ℕ). n / down e) z ∙ zero-div (down e) in
+      from-u (fin false m e) +0 (rw h zero-held) ((λ (u : false ≡ true). refl), lit≤ tt) (rw r)
+  positive-u true true h g =
+      let k : m * up e * 1 < 4294967295 * 1 * down e = ltb-true (m * up e * 1) (4294967295 * 1 * down e) (under-top-u32 ∙ g) in
+      let r : m * up e / down e < 4294967295 = div-lt-iff-lt-mul (down-pos e) .1 (omega arith) in
+      let i : m * up e / down e ≡ min (m * up e / down e) 4294967295 = omega arith in
+      from-u (fin false m e) (fin false m e) (rw (h, g)) ((λ (u : false ≡ true). absurd (true≢false (sym u))), omega arith) i
+  positive-u true false h g =
+      let k : 4294967295 * 1 * down e ≤ m * up e * 1 = ltb-false (m * up e * 1) (4294967295 * 1 * down e) (under-top-u32 ∙ g) in
+      let r : 4294967295 ≤ m * up e / down e = le-div-iff-mul-le (down-pos e) .1 (omega arith) in
+      let i : 4294967295 ≡ min (m * up e / down e) 4294967295 = omega arith in
+      from-u (fin false m e) top-u32 (rw (h, g)) ((λ (u : false ≡ true). absurd (true≢false (sym u))), lit≤ tt) i
+
+holds-u : (x : Float) → HoldsU x
+unfolding lt toUnsigned
+holds-u nan = from-u nan +0 refl ((λ (u : false ≡ true). refl), lit≤ tt) refl
+holds-u (inf true) = from-u (inf true) +0 refl ((λ (u : false ≡ true). refl), lit≤ tt) refl
+holds-u (inf false) = from-u (inf false) top-u32 refl ((λ (u : false ≡ true). absurd (true≢false (sym u))), lit≤ tt) refl
+holds-u (fin true m e) = from-u (fin true m e) +0 refl ((λ (u : false ≡ true). refl), lit≤ tt) refl
+holds-u (fin false m e) = positive-u m e (lt +0 (fin false m e)) (lt (fin false m e) top-u32) refl refl
+
+pub upto-u32 : (x : Float) → Upto 4294967295 (at-most-u32 (at-least-0 x))
+upto-u32 x = holds-u x .upto
+
+pub whole-u32-is : (x : Float) → wholeOf (at-most-u32 (at-least-0 x)) ≡ toUnsigned 32 x
+whole-u32-is x = holds-u x .is
+
+-- a number of 16 bits as an f64 and back
+pub signed-back : (z : ℤ) → mag z < 2 ^ 15 → T (inSigned binary64 15 (ofInt binary64 z)) × (toSigned 15 (ofInt binary64 z) ≡ z)
+unfolding inFloat
+signed-back (pos n) h = positive-back binary64 15 n (le→leb n (2 ^ 53) (omega arith)) h
+signed-back (negsuc k) h = negative-back binary64 15 k (lt→ltb k (2 ^ 53) (omega arith)) (omega arith)
+
+-- the size of what is held fits the whole part of an f64, and the sign comes back by a difference
+pub wide-enough : (a : Float) → Small a → Upto 4294967295 a
+wide-enough nan h = h
+wide-enough (inf s) h = h
+wide-enough (fin s m e) h = (h .0, omega (arith, h .1))
+
+few-whole : (a : Float) → Small a → wholeOf a ≤ 2 ^ 53
+few-whole nan h = absurd h
+few-whole (inf s) h = absurd h
+few-whole (fin s m e) h =
+    let k : m * up e / down e < 32769 = div-lt-iff-lt-mul (down-pos e) .1 (omega (arith, h .1, down-pos e)) in
+    omega arith
+
+pub signed-whole : (x : Float) → cond (lt (held x) +0) (sub binary64 +0 (ofInt binary64 (pos (wholeOf (sizeOf (held x)))))) (ofInt binary64 (pos (wholeOf (sizeOf (held x))))) ≡ ofInt binary64 (toSigned 15 x)
+signed-whole x = go (lt (held x) +0) ∙ ap (ofInt binary64) (holds x .is ∙ clamped-cast x)
+  where
+    k : ℕ
+    k = wholeOf (sizeOf (held x))
+
+    go : (b : Bool) → cond b (sub binary64 +0 (ofInt binary64 (pos k))) (ofInt binary64 (pos k)) ≡ ofInt binary64 (cond b (negℤ (pos k)) (pos k))
+    go true = minus-whole binary64 k (few-whole (sizeOf (held x)) (holds x .small))
+    go false = refl

@@ -4,7 +4,7 @@ use mathlib.Core.Bool.{true, false}
 use lib.IntN.{pos}
 use lib.Ieee.{inf, fin, binary32, binary64, ofBits, div, neg}
 use Rattle.numbers.specs.Literals.{+0, +1}
-use Rattle.numbers.specs.Held.{top, bottom}
+use Rattle.numbers.specs.Held.{top, bottom, top-u32}
 use Rattle.numbers.proofs.Floor.{big}
 
 pub zero-32 : ofBits binary32 0 ≡ +0
@@ -45,6 +45,24 @@ pub two-to-16 : ofBits binary32 0x4780_0000 ≡ fin false 1 (pos 16)
 unfolding ofBits
 two-to-16 = refl
 
-pub big-32 : ofBits binary32 0x4b00_0000 ≡ big
+pub big-32 : ofBits binary32 0x4b00_0000 ≡ big 23
 unfolding ofBits
 big-32 = refl
+
+-- the same in f64, with 4503599627370496.0
+pub big-64 : ofBits binary64 0x4330_0000_0000_0000 ≡ big 52
+unfolding ofBits
+big-64 = refl
+
+pub top-64 : ofBits binary64 0x40df_ffc0_0000_0000 ≡ top
+unfolding ofBits
+top-64 = refl
+
+pub bottom-64 : neg (ofBits binary64 0x40e0_0000_0000_0000) ≡ bottom
+unfolding ofBits neg
+bottom-64 = refl
+
+-- 4294967295.0
+pub top-u32-is : ofBits binary64 0x41ef_ffff_ffe0_0000 ≡ top-u32
+unfolding ofBits
+top-u32-is = refl

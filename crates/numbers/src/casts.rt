@@ -2,7 +2,10 @@
 ghost use mathlib.Core.Path.{_≡_};
 ghost use Prim.Native.Nat.{_≤_};
 ghost use lib.IntN.{pos, natAbs};
-ghost use Rattle.numbers.specs.Held.{at-most, at-least, held, sizeOf, Small, wholeOf, withSign};
+ghost use mathlib.Core.Bool.{cond};
+ghost use lib.Ieee.{binary64, lt, sub};
+ghost use Rattle.numbers.specs.Literals.{+0, +1};
+ghost use Rattle.numbers.specs.Held.{at-most, at-least, held, sizeOf, Upto, Small, wholeOf, withSign, at-least-0, at-most-u32};
 ghost use Rattle.numbers.specs.Within.{Is};
 ghost use Rattle.numbers.specs.Wrap.{clamp16};
 ghost use Rattle.numbers.specs.Casts.{cast-i32, cast-i16, cast-u32, single, double};
@@ -75,31 +78,83 @@ pub fn cast_clamped(x: f32) -> i16
     with_sign(z, whole_part(size(z))) as i16
 }
 
+// The same of an f64, as floats until the last cast: exact, for the number is whole. The sign comes back by a difference, which has no -0.0.
+fn double_at_most(x: f64) -> f64
+    ensures { λ r. ⌜ r ≡ at-most x ⌝ }
+{
+    if x < 32767.0 { x } else { 32767.0 }
+}
+
+fn double_at_least(x: f64) -> f64
+    ensures { λ r. ⌜ r ≡ at-least x ⌝ }
+{
+    if x > -32768.0 { x } else { -32768.0 }
+}
+
+fn double_held(x: f64) -> f64
+    ensures { λ r. ⌜ r ≡ held x ⌝ }
+{
+    let within = double_at_least(double_at_most(x));
+    if x == x { within } else { 0.0 }
+}
+
+fn double_size(z: f64) -> f64
+    ensures { λ r. ⌜ r ≡ sizeOf z ⌝ }
+{
+    if z < 0.0 { -z } else { z }
+}
+
+// 1 where a number lies above a, else 0.
+fn one_above(near: f64, a: f64) -> f64
+    ensures { λ r. ⌜ r ≡ cond (lt a near) +1 +0 ⌝ }
+{
+    if near > a { 1.0 } else { 0.0 }
+}
+
+fn double_whole(a: f64) -> f64
+    requires { ⌜ Upto 4294967295 a ⌝ }
+    ensures { λ r. ⌜ r ≡ double (pos (wholeOf a)) ⌝ }
+{
+    let near = (a + 4503599627370496.0) - 4503599627370496.0;
+    near - one_above(near, a)
+}
+
+fn double_with_sign(z: f64, n: f64) -> f64
+    ensures { λ r. ⌜ r ≡ cond (lt z +0) (sub binary64 +0 n) n ⌝ }
+{
+    if z < 0.0 { 0.0 - n } else { n }
+}
+
 pub fn cast_i16(x: f64) -> i16
     ensures { λ r. ⌜ r ≡ cast-i16 x ⌝ }
 {
-    if x >= -32768.0 {
-        if x < 32768.0 {
-            return std::num::truncating_f64_to_i64(x) as i16;
-        }
-        return 32767;
-    }
-    if x < 0.0 {
-        return -32768;
-    }
-    0
+    let z = double_held(x);
+    double_with_sign(z, double_whole(double_size(z))) as i16
+}
+
+pub fn at_least_0(x: f64) -> f64
+    ensures { λ r. ⌜ r ≡ at-least-0 x ⌝ }
+{
+    if x > 0.0 { x } else { 0.0 }
+}
+
+fn at_most_u32(x: f64) -> f64
+    ensures { λ r. ⌜ r ≡ at-most-u32 x ⌝ }
+{
+    if x < 4294967295.0 { x } else { 4294967295.0 }
+}
+
+// What the cast to u32 gives, as a float.
+pub fn whole_u32(x: f64) -> f64
+    ensures { λ r. ⌜ r ≡ double (pos (cast-u32 x)) ⌝ }
+{
+    double_whole(at_most_u32(at_least_0(x)))
 }
 
 pub fn cast_u32(x: f64) -> u32
     ensures { λ r. ⌜ r ≡ cast-u32 x ⌝ }
 {
-    if x >= 1.0 {
-        if x < 4294967296.0 {
-            return std::num::truncating_f64_to_u64(x) as u32;
-        }
-        return 4294967295;
-    }
-    0
+    whole_u32(x) as u32
 }
 
 pub fn single_of_i32(n: i32) -> f32

@@ -3,7 +3,7 @@ use mathlib.Core.Path.{_≡_, refl, sym, ap, _∙_, subst}
 use mathlib.Core.Bool.{true, false}
 use Prim.Native.Nat.{ℕ, _+_, _-_, _≤_, _<_}
 use native.Mathlib.Omega.{arith}
-use lib.Dec.{T, le→leb}
+use lib.Dec.{T, le→leb, lit<, lit≤}
 use lib.IntN.{ℤ, pos, natAbs, _-ℤ_}
 use lib.Ieee.{Float, binary32, ofBits, add, sub, ofInt, toSigned, inSigned, inFloat, lt}
 use lib.Ieee.Back.{positive-back}
@@ -22,8 +22,8 @@ abbrev near : Float → Float
 near a = sub binary32 (add binary32 a (ofBits binary32 0x4b00_0000)) (ofBits binary32 0x4b00_0000)
 
 module _ (a : Float) (h : Small a) where
-  abbrev f : Floored a
-  f = floored a h
+  abbrev f : Floored binary32 23 32768 a
+  f = floored binary32 23 refl (lit≤ tt) 32768 (lit< tt) a h
 
   near-is : near a ≡ ofInt binary32 (pos (f .k))
   near-is = (λ i. sub binary32 (add binary32 a (big-32 i)) (big-32 i)) ∙ f .is

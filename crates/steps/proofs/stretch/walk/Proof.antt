@@ -1,0 +1,29 @@
+-- `steps::stretch::walk` meets its contract: either way has it. Assumes nothing.
+use mathlib.Core.Path.{sym, _∙_}
+use borrow.Author.Needs.{needs}
+use Rattle.steps.proofs.Steady.{steady-says}
+use Rattle.steps.proofs.stretch.walk.Statement.{statement}
+use Rattle.steps.proofs.stretch.walk.Tie as tie
+
+is-steady-requires : tie.Need-is-steady-requires
+is-steady-requires c κs = search needs
+
+walk-steady-requires : tie.Need-walk-steady-requires
+walk-steady-requires c κs =
+    let t = c .before .before in
+    let s = t .before .before in
+    (s .pre .0, (s .pre .1, steady-says (s .args .c .fraction) (s .args .rate) (sym (t .before .is-steady .ensures) ∙ t .if1 .taken)))
+
+returns : tie.Need-returns
+returns c = search needs
+
+walk-any-requires : tie.Need-walk-any-requires
+walk-any-requires c κs = search needs
+
+returns-2 : tie.Need-returns-2
+returns-2 c = search needs
+
+pub walk-spec : {M : Type 1} → statement M
+walk-spec =
+    tie.close
+    (tie.spec is-steady-requires walk-steady-requires returns walk-any-requires returns-2)

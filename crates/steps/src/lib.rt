@@ -1,0 +1,4 @@
+// Steps through an entry's samples.
+pub mod plain;
+pub mod step;
+pub mod stretch;
