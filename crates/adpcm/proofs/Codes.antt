@@ -4,15 +4,15 @@ use mathlib.Core.Path.{_≡_, refl, sym, ap, _∙_}
 use mathlib.Core.List.{List, [], _∷_, _++_, append-nil}
 use mathlib.Core.Logic.{⊎-elim}
 use Prim.Native.Nat.{ℕ, zero, suc, min, _+_, _-_, _*_, _/_, _%_, _≤_, _<_}
-use native.Mathlib.Nat.{le-of-suc-le-suc, not-suc-le-zero}
+use native.Mathlib.Nat.{le-of-eq, le-of-suc-le-suc, not-suc-le-zero}
 use native.Mathlib.Numerals.{add-one}
 use native.Mathlib.Omega.{arith}
 use lib.IntN.{ℤ, pos}
 use lib.ListN.{length, take, drop, getD, length-append, length-drop, length-map}
-use lib.Seq.{length-take-le, take-all, take-append-le, take-append-add}
+use lib.Seq.{length-take-le, take-all, take-append-le, take-append-add, getD-drop}
 use Rattle.lists.proofs.Walk.{below-or}
 use Rattle.adpcm.specs.declared.History.{History}
-use Rattle.adpcm.specs.Code.{Code, nibbles, codesBy, frameCodes, codesOf, framesOf, after, samplesOf, historyAfter, decodedSamples, decodedHistory}
+use Rattle.adpcm.specs.Code.{Code, firstNibble, secondNibble, nibbles, codesBy, frameCodes, codesOf, framesOf, after, samplesOf, historyAfter, decodedSamples, decodedHistory}
 
 -- ---- nibbles
 
@@ -23,8 +23,8 @@ length-nibbles (b ∷ bytes) = ap (λ (n : ℕ). suc (suc n)) (length-nibbles by
     two : (n : ℕ) → suc (suc (n * 2)) ≡ suc n * 2
     two n = omega arith
 
--- an even index is a byte's higher half, an odd one its lower
-pub nibble-even : (bytes : List ℕ) (i k : ℕ) → i ≡ k * 2 → k < length bytes → getD (nibbles bytes) i 0 ≡ getD bytes k 0 / 16
+-- at an even index stands a byte's first nibble, at an odd one its second
+pub nibble-even : (bytes : List ℕ) (i k : ℕ) → i ≡ k * 2 → k < length bytes → getD (nibbles bytes) i 0 ≡ firstNibble (getD bytes k 0)
 nibble-even [] i k e h = absurd (not-suc-le-zero h)
 nibble-even (b ∷ bytes) i zero e h = ap (λ (n : ℕ). getD (nibbles (b ∷ bytes)) n 0) e
 nibble-even (b ∷ bytes) i (suc k) e h =
@@ -33,7 +33,7 @@ nibble-even (b ∷ bytes) i (suc k) e h =
     two : (k : ℕ) → suc k * 2 ≡ suc (suc (k * 2))
     two k = omega arith
 
-pub nibble-odd : (bytes : List ℕ) (i k : ℕ) → i ≡ suc (k * 2) → k < length bytes → getD (nibbles bytes) i 0 ≡ getD bytes k 0 % 16
+pub nibble-odd : (bytes : List ℕ) (i k : ℕ) → i ≡ suc (k * 2) → k < length bytes → getD (nibbles bytes) i 0 ≡ secondNibble (getD bytes k 0)
 nibble-odd [] i k e h = absurd (not-suc-le-zero h)
 nibble-odd (b ∷ bytes) i zero e h = ap (λ (n : ℕ). getD (nibbles (b ∷ bytes)) n 0) e
 nibble-odd (b ∷ bytes) i (suc k) e h =
@@ -41,6 +41,14 @@ nibble-odd (b ∷ bytes) i (suc k) e h =
   where
     two : (k : ℕ) → suc (suc k * 2) ≡ suc (suc (suc (k * 2)))
     two k = omega arith
+
+-- the same of a frame, whose first byte is the header
+module _ (frame : List ℕ) (i : ℕ) (e : length frame ≡ 8) (h : i < 14) where
+  pub frame-even : i % 2 ≡ 0 → getD (nibbles (drop 1 frame)) i 0 ≡ firstNibble (getD frame (1 + i / 2) 0)
+  frame-even z = nibble-even (drop 1 frame) i (i / 2) (omega arith) (simp length-drop (omega arith)) ∙ ap firstNibble (getD-drop 1 frame (i / 2) 0)
+
+  pub frame-odd : (i % 2 ≡ 0 → ⊥) → getD (nibbles (drop 1 frame)) i 0 ≡ secondNibble (getD frame (1 + i / 2) 0)
+  frame-odd z = nibble-odd (drop 1 frame) i (i / 2) (omega arith) (simp length-drop (omega arith)) ∙ ap secondNibble (getD-drop 1 frame (i / 2) 0)
 
 -- ---- codes
 
@@ -54,7 +62,7 @@ frame-long cs frame h = codes-by-long _ _ _ frame h
 pub taken-long : (codes : List Code) (n : ℕ) → length codes ≡ 14 → n ≤ 14 → length (take n codes) ≡ n
 taken-long codes n e h = length-take-le n codes (omega arith)
 
-pub codes-long : (f : ℕ) (cs : List ℤ) (bytes : List ℕ) → length bytes ≡ f * 8 → length (codesOf f cs bytes) ≡ f * 14
+pub codes-long : (f : ℕ) (cs : List ℤ) (bytes : List ℕ) → f * 8 ≤ length bytes → length (codesOf f cs bytes) ≡ f * 14
 codes-long zero cs bytes h = refl
 codes-long (suc f) cs bytes h =
     length-append (frameCodes cs (take 8 bytes)) (codesOf f cs (drop 8 bytes))
@@ -109,7 +117,7 @@ module _ (sample : History → Code → ℤ) where
   sample-at h (c ∷ codes) zero d k = refl
   sample-at h (c ∷ codes) (suc i) d k = sample-at (after sample h c) codes i d (le-of-suc-le-suc k)
 
-  history-suc : (h : History) (codes : List Code) (i : ℕ) (d : Code) → i < length codes
+  pub history-suc : (h : History) (codes : List Code) (i : ℕ) (d : Code) → i < length codes
       → historyAfter sample h (take (suc i) codes) ≡ after sample (historyAfter sample h (take i codes)) (getD codes i d)
   history-suc h [] i d k = absurd (not-suc-le-zero k)
   history-suc h (c ∷ codes) zero d k = refl
@@ -142,4 +150,4 @@ module _ (sample : History → Code → ℤ) where
   pub decoded-long : (cs : List ℤ) (h : History) (bytes : List ℕ) (count : ℕ) → length bytes ≡ framesOf count * 8 → length (decodedSamples sample cs h bytes count) ≡ count
   decoded-long cs h bytes count e =
       length-samples h (take count (codesOf (framesOf count) cs bytes))
-      ∙ length-take-le count (codesOf (framesOf count) cs bytes) (omega (arith, codes-long (framesOf count) cs bytes e))
+      ∙ length-take-le count (codesOf (framesOf count) cs bytes) (omega (arith, codes-long (framesOf count) cs bytes (le-of-eq (sym e))))

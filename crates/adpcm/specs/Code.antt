@@ -1,5 +1,5 @@
--- The coding, as the public descriptions of GameCube and Wii DSP-ADPCM have it: frames of eight bytes, a header and 14 nibbles, each nibble
--- with its frame's numbers the code of one sample. Assumes nothing: these are definitions.
+-- Module 2 of document 01: the coding. Frames of eight bytes, a header and 14 nibbles, each nibble with its frame's numbers the code of one sample.
+-- Assumes nothing: these are definitions.
 use Prim.Native.Nat.{ℕ, zero, suc, _+_, _-_, _*_, _/_, _%_, _^_}
 use mathlib.Core.Bool.{cond}
 use mathlib.Core.List.{List, [], _∷_, _++_, map}
@@ -19,9 +19,16 @@ abbrev pub code : ℕ → ℤ → ℤ → ℕ → Code
 code exponent c1 c2 nibble = record { exponent = exponent; c1 = c1; c2 = c2; nibble = nibble }
 
 -- "High nibble first"
+abbrev pub firstNibble : ℕ → ℕ
+firstNibble b = b / 16
+
+abbrev pub secondNibble : ℕ → ℕ
+secondNibble b = b % 16
+
+-- two of each byte
 abbrev pub nibbles : List ℕ → List ℕ
 nibbles [] = []
-nibbles (b ∷ bytes) = b / 16 ∷ b % 16 ∷ nibbles bytes
+nibbles (b ∷ bytes) = firstNibble b ∷ secondNibble b ∷ nibbles bytes
 
 -- the codes of a frame whose header says these numbers
 abbrev pub codesBy : ℕ → ℤ → ℤ → List ℕ → List Code

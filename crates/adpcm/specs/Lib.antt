@@ -1,3 +1,5 @@
 pub mod Code
 pub mod Adpcm
 pub mod Public
+pub mod Agreement
+pub mod Nine

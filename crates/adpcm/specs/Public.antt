@@ -1,34 +1,64 @@
--- The public description of GameCube and Wii DSP-ADPCM, which takes each sum as a whole number and wraps nothing, and the claim that document
--- 01's decode is the same wherever every sum on the way fits 32 signed bits. `proofs/Public.antt` proves the claim. Assumes nothing.
-use Prim.Native.Nat.{ℕ}
-use mathlib.Core.Path.{_≡_}
-use mathlib.Core.Bool.{Bool, true, _&&_}
-use mathlib.Core.List.{List, [], _∷_}
-use lib.Dec.{T, ltb}
-use lib.ListN.{take}
-use lib.IntN.{ℤ}
-use lib.Signed.{mag}
-use Rattle.adpcm.specs.Code.{Code, sumOf, after, codesOf, framesOf, decodedSamples, decodedHistory}
-use Rattle.adpcm.specs.Adpcm.{sampleOf, scaledDown}
+-- The public description of GameCube and Wii DSP-ADPCM, in its own words: sample n, counted from 0, from its frame's bytes and the two samples
+-- before it. A sum is a whole number of any size: nothing wraps. It takes nothing from `Code.antt` and `Adpcm.antt`, which say how document 01
+-- decodes; `Agreement.antt` says where the two give the same. Assumes nothing: these are definitions.
+use Prim.Native.Nat.{ℕ, zero, suc, _+_, _*_, _/_, _%_, _^_}
+use mathlib.Core.Bool.{cond}
+use mathlib.Core.List.{List}
+use lib.Dec.{eqb, ltb}
+use lib.ListN.{getD}
+use lib.IntN.{ℤ, pos, negsuc, negℤ, _+ℤ_, _-ℤ_, _*ℤ_}
+use lib.Signed.{leZ}
+use Rattle.lists.specs.Tabulate.{tabulate}
 use Rattle.adpcm.specs.declared.History.{History}
 
--- the sample of a code after a history, as published
-unfoldable pub publicSample : History → Code → ℤ
-publicSample h c = scaledDown (sumOf h c)
+-- A frame is eight bytes and holds 14 samples. The first byte of sample n's frame is its header:
+abbrev pub header : List ℕ → ℕ → ℕ
+header bytes n = getD bytes (8 * (n / 14)) 0
 
--- z fits 32 signed bits
-abbrev pub fits32 : ℤ → Bool
-fits32 z = ltb (mag z) 2147483648
+-- the lower half of the header is the exponent of a scale, the upper half the number of a pair of coefficients, the predictor
+abbrev pub exponent : List ℕ → ℕ → ℕ
+exponent bytes n = header bytes n % 16
 
--- the sums on the way through codes fit, the history kept as published
-abbrev pub sumsFit : History → List Code → Bool
-sumsFit h [] = true
-sumsFit h (c ∷ codes) = fits32 (sumOf h c) && sumsFit (after publicSample h c) codes
+abbrev pub predictor : List ℕ → ℕ → ℕ
+predictor bytes n = header bytes n / 16
 
--- For all coefficients, histories, bytes and counts:
-pub record AgreesWithPublished : Type 0 where
-  pub holds :
-      (coefficients : List ℤ) (h : History) (bytes : List ℕ) (count : ℕ)
-      → T (sumsFit h (take count (codesOf (framesOf count) coefficients bytes)))
-      → (decodedSamples sampleOf coefficients h bytes count ≡ decodedSamples publicSample coefficients h bytes count)
-      × (decodedHistory sampleOf coefficients h bytes count ≡ decodedHistory publicSample coefficients h bytes count)
+-- The frame's other seven bytes are 14 nibbles, two in each, the upper half before the lower. Sample n has nibble n % 14:
+abbrev pub nibble : List ℕ → ℕ → ℕ
+nibble bytes n =
+    let byte = getD bytes (8 * (n / 14) + 1 + n % 14 / 2) 0 in
+    cond (eqb (n % 14 % 2) 0) (byte / 16) (byte % 16)
+
+-- a nibble is signed, from -8 to 7: from 8 on it stands for 16 less
+abbrev pub signed : ℕ → ℤ
+signed k = cond (ltb k 8) (pos k) (pos k -ℤ pos 16)
+
+-- the sum of sample n, in parts of 2048: the nibble times the scale, a half, and the two samples before, each times its coefficient of the pair
+unfoldable pub publicSum : List ℤ → List ℕ → History → ℕ → ℤ
+publicSum coefficients bytes before n =
+    signed (nibble bytes n) *ℤ pos (2 ^ exponent bytes n) *ℤ pos 2048 +ℤ pos 1024
+    +ℤ getD coefficients (2 * predictor bytes n) (pos 0) *ℤ before .yn1
+    +ℤ getD coefficients (2 * predictor bytes n + 1) (pos 0) *ℤ before .yn2
+
+-- a whole number by 2048, rounded down: one below 0 is minus a size, which is then rounded up
+abbrev pub floor : ℤ → ℤ
+floor (pos n) = pos (n / 2048)
+floor (negsuc n) = negℤ (pos ((suc n + 2047) / 2048))
+
+-- the number from -32768 to 32767 that is nearest
+abbrev pub clamp : ℤ → ℤ
+clamp z = cond (leZ z (pos 32767)) (cond (leZ (negℤ (pos 32768)) z) z (negℤ (pos 32768))) (pos 32767)
+
+-- sample n, from the two before it
+unfoldable pub publicSample : List ℤ → List ℕ → History → ℕ → ℤ
+publicSample coefficients bytes before n = clamp (floor (publicSum coefficients bytes before n))
+
+-- the two samples before sample n, the newer first: those given, and then those made
+abbrev pub publicHistory : List ℤ → History → List ℕ → ℕ → History
+publicHistory coefficients h bytes zero = h
+publicHistory coefficients h bytes (suc n) =
+    let before = publicHistory coefficients h bytes n in
+    record { yn1 = publicSample coefficients bytes before n; yn2 = before .yn1 }
+
+-- the samples from 0 to count - 1
+abbrev pub publicSamples : List ℤ → History → List ℕ → ℕ → List ℤ
+publicSamples coefficients h bytes count = tabulate (λ n. publicSample coefficients bytes (publicHistory coefficients h bytes n) n) count

@@ -5,7 +5,7 @@ ghost use Prim.Native.Nat.{min, _*_, _/_, _%_, _^_, _≤_, _<_};
 ghost use lib.ListN.{length, take, drop, getD};
 ghost use lib.IntN.{pos};
 ghost use Rattle.numbers.specs.Within.{Is};
-ghost use Rattle.adpcm.specs.Code.{code, nibbles, codesBy, frameCodes, framesOf, signedNibble, sumOf, samplesOf, historyAfter, decodedSamples, decodedHistory};
+ghost use Rattle.adpcm.specs.Code.{code, firstNibble, secondNibble, nibbles, codesBy, frameCodes, framesOf, signedNibble, sumOf, samplesOf, historyAfter, decodedSamples, decodedHistory};
 ghost use Rattle.adpcm.specs.Adpcm.{sampleOf, decodeAnswer, decodeOutput};
 
 // The last two samples, the newer first, which the next ones follow on from.
@@ -48,6 +48,20 @@ fn sample(exponent: u8, nibble: u8, c1: i16, c2: i16, h: History) -> i16
     numbers::whole::clamped(numbers::whole::wrapped(sum(exponent, nibble, c1, c2, h)) >> 11)
 }
 
+// The nibble of a byte that comes first.
+fn first_nibble(b: u8) -> u8
+    ensures { λ r. ⌜ (r ≡ firstNibble b) × (r < 16) ⌝ }
+{
+    b / 16
+}
+
+// The nibble of a byte that comes second.
+fn second_nibble(b: u8) -> u8
+    ensures { λ r. ⌜ (r ≡ secondNibble b) × (r < 16) ⌝ }
+{
+    b % 16
+}
+
 // The nibble at an index of a frame's 14.
 fn nibble_at(frame: &[u8], i: usize) -> u8
     requires { ⌜ (length (now frame) ≡ 8) × (i < 14) ⌝ }
@@ -55,9 +69,9 @@ fn nibble_at(frame: &[u8], i: usize) -> u8
 {
     let b = frame[1 + i / 2];
     if i % 2 == 0 {
-        return b >> 4;
+        return first_nibble(b);
     }
-    b & 15
+    second_nibble(b)
 }
 
 // Decodes as many samples of a frame as `samples` holds, 14 at most, by what its header says.
@@ -106,11 +120,11 @@ fn decode_pairs(
     while i < 7 {
         let k = i * 2;
         let b = frame[1 + i];
-        let y = sample(exponent, b / 16, c1, c2, last);
+        let y = sample(exponent, first_nibble(b), c1, c2, last);
         samples[k] = y;
         let older = last.yn1;
         let mid = History { yn1: y, yn2: older };
-        let z = sample(exponent, b % 16, c1, c2, mid);
+        let z = sample(exponent, second_nibble(b), c1, c2, mid);
         samples[k + 1] = z;
         last = History { yn1: z, yn2: y };
         i += 1;

@@ -4,11 +4,11 @@ use lib.Ieee.{ofInt, add, sub, mul, toSigned}
 use Rattle.mixing.specs.Interpolate.{interpolate}
 use Rattle.adpcm.specs.Code.{sumOf}
 use Rattle.adpcm.specs.Adpcm.{sampleOf}
-use Rattle.adpcm.specs.Public.{publicSample}
+use Rattle.adpcm.specs.Public.{publicSum, publicSample}
 use Rattle.cases.specs.Starred.{StarredCasesHold}
 
 pub starred-cases-hold : StarredCasesHold
-unfolding sampleOf publicSample sumOf interpolate ofInt add sub mul toSigned
+unfolding sampleOf sumOf publicSample publicSum interpolate ofInt add sub mul toSigned
 starred-cases-hold = record {
   holds = (refl, (refl, (refl, (refl, (refl, (refl, ((refl, refl), ((refl, refl), ((refl, refl), ((refl, refl), (refl, (refl, (refl, tt)))))))))))));
 }

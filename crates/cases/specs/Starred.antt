@@ -13,9 +13,9 @@ use Rattle.mixing.specs.Interpolate.{interpolate}
 use Rattle.memory.specs.Choice.{chosen}
 use Rattle.memory.specs.Little.{atDsp32, dsp32Bytes}
 use Rattle.adpcm.specs.declared.History.{History}
-use Rattle.adpcm.specs.Code.{Code, code, decodedSamples, decodedHistory}
+use Rattle.adpcm.specs.Code.{decodedSamples, decodedHistory}
 use Rattle.adpcm.specs.Adpcm.{sampleOf}
-use Rattle.adpcm.specs.Public.{publicSample}
+use Rattle.adpcm.specs.Public.{publicSamples}
 
 abbrev history : ℤ → ℤ → History
 history yn1 yn2 = record { yn1 = yn1; yn2 = yn2 }
@@ -37,8 +37,8 @@ pub data Case : Type 0 where
   dsp32 : (bytes : List ℕ) (value : ℕ) → Case
   -- coefficients, history, bytes and count, and the samples and the history after them
   decode : (coefficients : List ℤ) (h : History) (bytes : List ℕ) (count : ℕ) (samples : List ℤ) (last : History) → Case
-  -- a history and a code, the sample, and the sample of the public description, which does not wrap
-  step : (h : History) (c : Code) (sample published : ℤ) → Case
+  -- coefficients, history and a frame, its first sample, and that of the public description, which does not wrap
+  step : (coefficients : List ℤ) (h : History) (frame : List ℕ) (sample published : ℤ) → Case
   -- two samples and a fraction of the way, and the sample there
   between : (a b : ℤ) (fraction : Float) (sample : ℤ) → Case
   -- a whole number, and the float it is rounded to
@@ -50,7 +50,8 @@ Agrees (counters first second region) = chosen first second ≡ region
 Agrees (dsp32 bytes value) = (atDsp32 bytes 0 ≡ value) × (dsp32Bytes value ≡ bytes)
 Agrees (decode coefficients h bytes count samples last) =
     (decodedSamples sampleOf coefficients h bytes count ≡ samples) × (decodedHistory sampleOf coefficients h bytes count ≡ last)
-Agrees (step h c sample published) = (sampleOf h c ≡ sample) × (publicSample h c ≡ published)
+Agrees (step coefficients h frame sample published) =
+    (decodedSamples sampleOf coefficients h frame 1 ≡ sample ∷ []) × (publicSamples coefficients h frame 1 ≡ published ∷ [])
 Agrees (between a b fraction sample) = interpolate a b fraction ≡ sample
 Agrees (rounded n x) = single n ≡ x
 
@@ -64,8 +65,8 @@ starred =
     ∷ counters 65534 65535 1
     ∷ dsp32 (1 ∷ 0 ∷ 69 ∷ 35 ∷ []) 74565
     ∷ decode (replicate 16 (pos 0)) (history (pos 0) (pos 0)) (0 ∷ 31 ∷ 112 ∷ replicate 5 0) 3 (pos 1 ∷ negsuc 0 ∷ pos 7 ∷ []) (history (pos 7) (negsuc 0))
-    ∷ step (history (negsuc 32767) (negsuc 32767)) (code 0 (negsuc 32767) (negsuc 32767) 0) (negsuc 32767) (pos 32767)
-    ∷ step (history (pos 0) (pos 0)) (code 15 (pos 0) (pos 0) 8) (negsuc 32767) (negsuc 32767)
+    ∷ step (replicate 16 (negsuc 32767)) (history (negsuc 32767) (negsuc 32767)) (replicate 8 0) (negsuc 32767) (pos 32767)
+    ∷ step (replicate 16 (pos 0)) (history (pos 0) (pos 0)) (15 ∷ 128 ∷ replicate 6 0) (negsuc 32767) (negsuc 32767)
     ∷ between (pos 0) (negsuc 2) half (negsuc 0)
     ∷ between (pos 0) (pos 100) oneAndAHalf (pos 150)
     ∷ rounded (pos 16777217) 2^24

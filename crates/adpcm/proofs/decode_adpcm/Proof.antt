@@ -2,16 +2,16 @@
 use mathlib.Core.Path.{_≡_, sym, _∙_}
 use mathlib.Core.Bool.{true, false}
 use mathlib.Core.List.{List, _++_}
-use Prim.Native.Nat.{ℕ, _*_, _≤_, _<_}
+use Prim.Native.Nat.{ℕ}
 use lib.IntN.{ℤ}
 use lib.ListN.{length, drop}
 use borrow.Author.Needs.{needs}
-use borrow.Author.Tests.{lt-ltb, le-ltb, eq-eqb, ne-eqb}
-use Rattle.lists.proofs.Bools.{or-no, or-yes, not-yes, not-no, cond-yes, cond-no}
+use Rattle.lists.proofs.Bools.{cond-yes, cond-no}
 use Rattle.adpcm.specs.declared.History.{History}
 use Rattle.adpcm.specs.declared.Decoded.{Decoded}
-use Rattle.adpcm.specs.Code.{framesOf, decodedSamples, decodedHistory}
+use Rattle.adpcm.specs.Code.{decodedSamples, decodedHistory}
 use Rattle.adpcm.specs.Adpcm.{sampleOf, refused, decodeAnswer, decodeOutput}
+use Rattle.adpcm.proofs.Nine.{many, odd, short, well}
 use Rattle.adpcm.proofs.decode_adpcm.Statement.{statement}
 use Rattle.adpcm.proofs.decode_adpcm.Tie as tie
 
@@ -27,22 +27,10 @@ module _ (cs : List ℤ) (h : History) (bytes : List ℕ) (count : ℕ) (old : L
       → r ≡ record { number = 0; history = decodedHistory sampleOf cs h bytes count } → out ≡ decodedSamples sampleOf cs h bytes count ++ drop count old → Right r out
   served t r out p q = (p ∙ sym (cond-no _ _ t), q ∙ sym (cond-no _ _ t))
 
-  many : 65536 < count → refused (length bytes) count (length old) ≡ true
-  many k = or-yes _ (lt-ltb 65536 count k)
-
-  odd : count ≤ 65536 → (length bytes ≡ framesOf count * 8 → ⊥) → refused (length bytes) count (length old) ≡ true
-  odd k e = or-no _ (le-ltb 65536 count k) ∙ or-yes _ (not-no (ne-eqb _ _ e))
-
-  short : count ≤ 65536 → length bytes ≡ framesOf count * 8 → length old < count → refused (length bytes) count (length old) ≡ true
-  short k e l = or-no _ (le-ltb 65536 count k) ∙ or-no _ (not-yes (eq-eqb _ _ e)) ∙ lt-ltb _ _ l
-
-  well : count ≤ 65536 → length bytes ≡ framesOf count * 8 → count ≤ length old → refused (length bytes) count (length old) ≡ false
-  well k e l = or-no _ (le-ltb 65536 count k) ∙ or-no _ (not-yes (eq-eqb _ _ e)) ∙ le-ltb _ _ l
-
 returns : tie.Need-returns
 returns c =
     let a = c .before .before .args in
-    no (a .coefficients .now) (a .history) (a .«data» .now) (a .count) (a .samples .now) (many (a .coefficients .now) (a .history) (a .«data» .now) (a .count) (a .samples .now) (c .if1 .taken))
+    no (a .coefficients .now) (a .history) (a .«data» .now) (a .count) (a .samples .now) (many (length (a .«data» .now)) (a .count) (length (a .samples .now)) (c .if1 .taken))
 
 add-if2 : tie.Need-add-if2
 add-if2 c = search needs
@@ -53,12 +41,12 @@ mul-if2 c = search needs
 returns-2 : tie.Need-returns-2
 returns-2 c =
     let a = c .before .before .before .args in
-    no (a .coefficients .now) (a .history) (a .«data» .now) (a .count) (a .samples .now) (odd (a .coefficients .now) (a .history) (a .«data» .now) (a .count) (a .samples .now) (c .before .if1 .left) (c .if2 .taken))
+    no (a .coefficients .now) (a .history) (a .«data» .now) (a .count) (a .samples .now) (odd (length (a .«data» .now)) (a .count) (length (a .samples .now)) (c .before .if1 .left) (c .if2 .taken))
 
 returns-3 : tie.Need-returns-3
 returns-3 c =
     let a = c .before .before .before .before .args in
-    no (a .coefficients .now) (a .history) (a .«data» .now) (a .count) (a .samples .now) (short (a .coefficients .now) (a .history) (a .«data» .now) (a .count) (a .samples .now) (c .before .before .if1 .left) (c .before .if2 .left) (c .if3 .taken))
+    no (a .coefficients .now) (a .history) (a .«data» .now) (a .count) (a .samples .now) (short (length (a .«data» .now)) (a .count) (length (a .samples .now)) (c .before .before .if1 .left) (c .before .if2 .left) (c .if3 .taken))
 
 decode-all-requires : tie.Need-decode-all-requires
 decode-all-requires c κs = search needs
@@ -72,7 +60,7 @@ returns-4 c =
     let e = d .before .before in
     let a = e .before .before .before .before .args in
     served (a .coefficients .now) (a .history) (a .«data» .now) (a .count) (a .samples .now)
-    (well (a .coefficients .now) (a .history) (a .«data» .now) (a .count) (a .samples .now) (e .before .before .if1 .left) (e .before .if2 .left) (e .if3 .left))
+    (well (length (a .«data» .now)) (a .count) (length (a .samples .now)) (e .before .before .if1 .left) (e .before .if2 .left) (e .if3 .left))
     (record { number = 0; history = d .decode-all .result }) (d .decode-all .last .1 .1 .1 .1 .0)
     (λ j. record { number = 0; history = d .decode-all .ensures .1 j }) (d .decode-all .ensures .0)
 

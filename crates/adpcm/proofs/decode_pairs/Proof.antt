@@ -1,6 +1,6 @@
 -- `adpcm::decode_pairs` meets its contract: after i turns the samples of i bytes stand, two for each. Assumes nothing.
 use mathlib.Core.Path.{_≡_, refl, sym, ap, _∙_, subst}
-use Prim.Native.Nat.{ℕ, _+_, _-_, _*_, _/_, _%_, _<_}
+use Prim.Native.Nat.{ℕ, _+_, _-_, _*_, _<_}
 use native.Mathlib.Omega.{arith}
 use lib.IntN.{ℤ}
 use lib.ListN.{length, drop, getD, set, length-drop, length-set, List·getD-map}
@@ -12,7 +12,7 @@ use borrow.Author.Needs.{needs}
 use mathlib.Core.List.{List}
 use Rattle.numbers.proofs.Bounds.{result-read}
 use Rattle.adpcm.specs.declared.History.{History}
-use Rattle.adpcm.specs.Code.{Code, code, nibbles, codesBy, samplesOf, historyAfter}
+use Rattle.adpcm.specs.Code.{code, firstNibble, secondNibble, nibbles, codesBy, samplesOf, historyAfter}
 use Rattle.adpcm.specs.Adpcm.{sampleOf}
 use Rattle.adpcm.proofs.Codes.{codes-by-long, nibble-even, nibble-odd}
 use Rattle.adpcm.proofs.Runs.{Done, start, turn, finish}
@@ -21,16 +21,16 @@ use Rattle.adpcm.proofs.decode_pairs.Tie as tie
 
 -- the codes of a byte
 first : (e : ℕ) (c1 c2 : ℤ) (frame : List ℕ) (i : ℕ) → length frame ≡ 8 → i < 7
-    → code e c1 c2 (getD frame (1 + i) 0 / 16) ≡ getD (codesBy e c1 c2 frame) (i * 2) (code e c1 c2 0)
+    → code e c1 c2 (firstNibble (getD frame (1 + i) 0)) ≡ getD (codesBy e c1 c2 frame) (i * 2) (code e c1 c2 0)
 first e c1 c2 frame i l k =
-    ap (λ (b : ℕ). code e c1 c2 (b / 16)) (sym (getD-drop 1 frame i 0))
+    ap (λ (b : ℕ). code e c1 c2 (firstNibble b)) (sym (getD-drop 1 frame i 0))
     ∙ ap (code e c1 c2) (sym (nibble-even (drop 1 frame) (i * 2) i refl (simp length-drop (omega arith))))
     ∙ sym (List·getD-map (code e c1 c2) (nibbles (drop 1 frame)) (i * 2) 0)
 
 second : (e : ℕ) (c1 c2 : ℤ) (frame : List ℕ) (i : ℕ) → length frame ≡ 8 → i < 7
-    → code e c1 c2 (getD frame (1 + i) 0 % 16) ≡ getD (codesBy e c1 c2 frame) (i * 2 + 1) (code e c1 c2 0)
+    → code e c1 c2 (secondNibble (getD frame (1 + i) 0)) ≡ getD (codesBy e c1 c2 frame) (i * 2 + 1) (code e c1 c2 0)
 second e c1 c2 frame i l k =
-    ap (λ (b : ℕ). code e c1 c2 (b % 16)) (sym (getD-drop 1 frame i 0))
+    ap (λ (b : ℕ). code e c1 c2 (secondNibble b)) (sym (getD-drop 1 frame i 0))
     ∙ ap (code e c1 c2) (sym (nibble-odd (drop 1 frame) (i * 2 + 1) i (omega arith) (simp length-drop (omega arith))))
     ∙ sym (List·getD-map (code e c1 c2) (nibbles (drop 1 frame)) (i * 2 + 1) 0)
 
@@ -52,17 +52,23 @@ add-b c = search needs
 shared-slice-read-b : tie.Need-shared-slice-read-b Inv-loop μ-loop
 shared-slice-read-b c = search needs
 
+first-nibble-requires : tie.Need-first-nibble-requires Inv-loop μ-loop
+first-nibble-requires c κs = search needs
+
 sample-requires : tie.Need-sample-requires Inv-loop μ-loop
-sample-requires c κs = (c .before .before .before .before .pre .1 .1, omega (arith, c .shared-slice-known2 .given (1 + c .before .before .loop .i)))
+sample-requires c κs = (c .before .before .before .before .before .pre .1 .1, c .first-nibble .ensures .1)
 
 mul-y : tie.Need-mul-y Inv-loop μ-loop
 mul-y c = search needs
 
 slice-set-from-y : tie.Need-slice-set-from-y Inv-loop μ-loop
-slice-set-from-y c = omega (arith, c .before .before .before .loop .inv .same, c .before .before .before .before .before .pre .1 .0)
+slice-set-from-y c = omega (arith, c .before .before .before .before .loop .inv .same, c .before .before .before .before .before .before .pre .1 .0)
+
+second-nibble-requires : tie.Need-second-nibble-requires Inv-loop μ-loop
+second-nibble-requires c κs = search needs
 
 sample-requires-2 : tie.Need-sample-requires-2 Inv-loop μ-loop
-sample-requires-2 c κs = (c .before .before .before .before .before .before .pre .1 .1, omega arith)
+sample-requires-2 c κs = (c .before .before .before .before .before .before .before .before .pre .1 .1, c .second-nibble .ensures .1)
 
 add-z : tie.Need-add-z Inv-loop μ-loop
 add-z c = search needs
@@ -71,7 +77,7 @@ mul-z : tie.Need-mul-z Inv-loop μ-loop
 mul-z c = search needs
 
 slice-set-from-z : tie.Need-slice-set-from-z Inv-loop μ-loop
-slice-set-from-z c = simp length-set (omega (arith, c .before .before .before .before .before .loop .inv .same, c .before .before .before .before .before .before .before .pre .1 .0))
+slice-set-from-z c = simp length-set (omega (arith, c .before .before .before .before .before .before .before .loop .inv .same, c .before .before .before .before .before .before .before .before .before .pre .1 .0))
 
 add-i : tie.Need-add-i Inv-loop μ-loop
 add-i c = search needs
@@ -81,11 +87,13 @@ loop-less c = search needs
 
 loop-again : tie.Need-loop-again Inv-loop μ-loop
 loop-again c =
-    let l = c .before .before .before .before .before .loop in
-    let a = c .before .before .before .before .before .before .before in
+    let l = c .before .before .before .before .before .before .before .loop in
+    let a = c .before .before .before .before .before .before .before .before .before in
     let i = l .i in
-    let y = c .before .before .sample in
+    let y = c .before .before .before .sample in
     let z = c .sample2 in
+    let n = c .before .before .before .before .first-nibble in
+    let m = c .before .second-nibble in
     let e = a .args .exponent in
     let c1 = toZ w16 (ofZ w16 (a .args .c1)) in
     let c2 = toZ w16 (ofZ w16 (a .args .c2)) in
@@ -100,10 +108,10 @@ loop-again c =
     let all : length codes ≡ length old = codes-by-long e c1 c2 frame (a .pre .0) ∙ sym (a .pre .1 .0) in
     let one : Done (a .args .h) codes old (set (l .samples) (i * 2) y₁) mid (i * 2 + 1) =
     turn (a .args .h) codes old (l .samples) (l .last) (i * 2) (code e c1 c2 0) y₁ n₁ all (omega (arith, a .pre .1 .0)) (l .inv)
-    (result-read w16 (y .result) (y .ok) ∙ y .ensures ∙ ap (sampleOf (l .last)) (first e c1 c2 frame i (a .pre .0) k)) (toZ-ofZ s) in
+    (result-read w16 (y .result) (y .ok) ∙ y .ensures ∙ ap (sampleOf (l .last)) (ap (code e c1 c2) (n .ensures .0) ∙ first e c1 c2 frame i (a .pre .0) k)) (toZ-ofZ s) in
     let two : Done (a .args .h) codes old (set (set (l .samples) (i * 2) y₁) (i * 2 + 1) (toZ w16 (ofZ w16 (z .result)))) (record { yn1 = toZ w16 (ofZ w16 (z .result)); yn2 = y₁ }) (i * 2 + 1 + 1) =
     turn (a .args .h) codes old (set (l .samples) (i * 2) y₁) mid (i * 2 + 1) (code e c1 c2 0) (toZ w16 (ofZ w16 (z .result))) y₁ all (omega (arith, a .pre .1 .0)) one
-    (result-read w16 (z .result) (z .ok) ∙ z .ensures ∙ ap (sampleOf mid) (second e c1 c2 frame i (a .pre .0) k)) refl in
+    (result-read w16 (z .result) (z .ok) ∙ z .ensures ∙ ap (sampleOf mid) (ap (code e c1 c2) (m .ensures .0) ∙ second e c1 c2 frame i (a .pre .0) k)) refl in
     let next : i * 2 + 1 + 1 ≡ (i + 1) * 2 = omega arith in
     subst (λ (n : ℕ). Done (a .args .h) codes old (set (set (l .samples) (i * 2) y₁) (i * 2 + 1) (toZ w16 (ofZ w16 (z .result)))) (record { yn1 = toZ w16 (ofZ w16 (z .result)); yn2 = y₁ }) n) next two
 
@@ -135,9 +143,11 @@ decode-pairs-spec =
     mul-k
     add-b
     shared-slice-read-b
+    first-nibble-requires
     sample-requires
     mul-y
     slice-set-from-y
+    second-nibble-requires
     sample-requires-2
     add-z
     mul-z
