@@ -65,15 +65,10 @@ clamp-is (negsuc n) =
 scaled-is : (z : ℤ) → scaledDown z ≡ clamp (floor z)
 scaled-is z = clamp-is (shrZ z 2048) ∙ ap clamp (floor-is z)
 
+-- a number from -2147483648 to 2147483647 is one of 32 bits
 fits : (z : ℤ) → Fits32 z → SFits w32 z
-fits (pos n) f = record { sfits = below (leb→le n 2147483647 (f .1 .le)) }
-  where
-    below : n ≤ 2147483647 → n < 2147483648
-    below l = omega arith
-fits (negsuc n) f = record { sfits = below (leb→le n 2147483647 (f .0 .le)) }
-  where
-    below : n ≤ 2147483647 → n < 2147483648
-    below l = omega arith
+fits (pos n) f = record { sfits = omega (arith, leb→le n _ (f .1 .le)) }
+fits (negsuc n) f = record { sfits = omega (arith, leb→le n _ (f .0 .le)) }
 
 -- ---- codes by the index
 

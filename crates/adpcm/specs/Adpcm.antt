@@ -1,4 +1,5 @@
--- Module 2 of document 01: ADPCM as the source decodes it, its sums wrapped to 32 bits, and the decoder's answer. Assumes nothing: these are definitions.
+-- Module 2 of document 01: ADPCM as the source decodes it, its sums wrapped to 32 bits, and the decoder's answer.
+-- Assumes nothing: these are definitions.
 use Prim.Native.Nat.{ℕ, _*_}
 use mathlib.Core.Bool.{Bool, not, _||_, cond}
 use mathlib.Core.List.{List, _++_}

@@ -1,5 +1,5 @@
--- Module 2 of document 01: the coding. Frames of eight bytes, a header and 14 nibbles, each nibble with its frame's numbers the code of one sample.
--- Assumes nothing: these are definitions.
+-- Module 2 of document 01: the coding. Frames of eight bytes, a header and 14 nibbles, each nibble with its frame's numbers the code of
+-- one sample. Assumes nothing: these are definitions.
 use Prim.Native.Nat.{ℕ, zero, suc, _+_, _-_, _*_, _/_, _%_, _^_}
 use mathlib.Core.Bool.{cond}
 use mathlib.Core.List.{List, [], _∷_, _++_, map}
@@ -44,7 +44,8 @@ predictorOf frame = getD frame 0 0 / 16 % 8
 -- a frame's 14 codes: of the 16 coefficients the predictor names a pair
 abbrev pub frameCodes : List ℤ → List ℕ → List Code
 frameCodes coefficients frame =
-    codesBy (exponentOf frame) (getD coefficients (predictorOf frame * 2) (pos 0)) (getD coefficients (predictorOf frame * 2 + 1) (pos 0)) frame
+    codesBy (exponentOf frame) (getD coefficients (predictorOf frame * 2) (pos 0))
+    (getD coefficients (predictorOf frame * 2 + 1) (pos 0)) frame
 
 -- the codes of so many frames of eight bytes
 abbrev pub codesOf : ℕ → List ℤ → List ℕ → List Code

@@ -1,6 +1,6 @@
--- The public description of GameCube and Wii DSP-ADPCM, in its own words: sample n, counted from 0, from its frame's bytes and the two samples
--- before it. A sum is a whole number of any size: nothing wraps. It takes nothing from `Code.antt` and `Adpcm.antt`, which say how document 01
--- decodes; `Agreement.antt` says where the two give the same. Assumes nothing: these are definitions.
+-- The public description of GameCube and Wii DSP-ADPCM, in its own words: sample n, counted from 0, from its frame's bytes and the two
+-- samples before it. A sum is a whole number of any size: nothing wraps. It takes nothing from `Code.antt` and `Adpcm.antt`, which say how
+-- document 01 decodes; `Agreement.antt` says where the two give the same. Assumes nothing: these are definitions.
 use Prim.Native.Nat.{ℕ, zero, suc, _+_, _*_, _/_, _%_, _^_}
 use mathlib.Core.Bool.{cond}
 use mathlib.Core.List.{List}
@@ -32,7 +32,7 @@ nibble bytes n =
 abbrev pub signed : ℕ → ℤ
 signed k = cond (ltb k 8) (pos k) (pos k -ℤ pos 16)
 
--- the sum of sample n, in parts of 2048: the nibble times the scale, a half, and the two samples before, each times its coefficient of the pair
+-- the sum of sample n, in parts of 2048: the nibble times the scale, a half, and the two samples before, each times one of the pair
 unfoldable pub publicSum : List ℤ → List ℕ → History → ℕ → ℤ
 publicSum coefficients bytes before n =
     signed (nibble bytes n) *ℤ pos (2 ^ exponent bytes n) *ℤ pos 2048 +ℤ pos 1024

@@ -5,7 +5,8 @@ ghost use Prim.Native.Nat.{min, _*_, _/_, _%_, _^_, _≤_, _<_};
 ghost use lib.ListN.{length, take, drop, getD};
 ghost use lib.IntN.{pos};
 ghost use Rattle.numbers.specs.Within.{Is};
-ghost use Rattle.adpcm.specs.Code.{code, firstNibble, secondNibble, nibbles, codesBy, frameCodes, framesOf, signedNibble, sumOf, samplesOf, historyAfter, decodedSamples, decodedHistory};
+ghost use Rattle.adpcm.specs.Code.{code, firstNibble, secondNibble, nibbles, codesBy, frameCodes, framesOf, signedNibble};
+ghost use Rattle.adpcm.specs.Code.{sumOf, samplesOf, historyAfter, decodedSamples, decodedHistory};
 ghost use Rattle.adpcm.specs.Adpcm.{sampleOf, decodeAnswer, decodeOutput};
 
 // The last two samples, the newer first, which the next ones follow on from.
@@ -84,8 +85,10 @@ fn decode_nibbles(
     samples: &mut [i16],
 ) -> History
     requires { ⌜ (length (now frame) ≡ 8) × ((length (now samples) ≤ 14) × (exponent < 16)) ⌝ }
-    ensures samples { λ _. ⌜ now (samples .exit) ≡ samplesOf sampleOf h (take (length (now (samples .entry))) (codesBy exponent c1 c2 (now (frame .entry)))) ⌝ }
-    ensures history { λ r. ⌜ r ≡ historyAfter sampleOf h (take (length (now (samples .entry))) (codesBy exponent c1 c2 (now (frame .entry)))) ⌝ }
+    ensures samples { λ _. ⌜ now (samples .exit) ≡
+        samplesOf sampleOf h (take (length (now (samples .entry))) (codesBy exponent c1 c2 (now (frame .entry)))) ⌝ }
+    ensures history { λ r. ⌜ r ≡
+        historyAfter sampleOf h (take (length (now (samples .entry))) (codesBy exponent c1 c2 (now (frame .entry)))) ⌝ }
 {
     let mut last = h;
     let mut i = 0;
@@ -149,8 +152,10 @@ fn predictor_of(header: u8) -> usize
 // Decodes as many samples of a frame as `samples` holds, 14 at most.
 fn decode_frame(frame: &[u8], coefficients: &[i16; 16], h: History, samples: &mut [i16]) -> History
     requires { ⌜ (length (now frame) ≡ 8) × (length (now samples) ≤ 14) ⌝ }
-    ensures samples { λ _. ⌜ now (samples .exit) ≡ samplesOf sampleOf h (take (length (now (samples .entry))) (frameCodes (now (coefficients .entry)) (now (frame .entry)))) ⌝ }
-    ensures history { λ r. ⌜ r ≡ historyAfter sampleOf h (take (length (now (samples .entry))) (frameCodes (now (coefficients .entry)) (now (frame .entry)))) ⌝ }
+    ensures samples { λ _. ⌜ now (samples .exit) ≡
+        samplesOf sampleOf h (take (length (now (samples .entry))) (frameCodes (now (coefficients .entry)) (now (frame .entry)))) ⌝ }
+    ensures history { λ r. ⌜ r ≡
+        historyAfter sampleOf h (take (length (now (samples .entry))) (frameCodes (now (coefficients .entry)) (now (frame .entry)))) ⌝ }
 {
     let header = frame[0];
     let exponent = exponent_of(header);
@@ -179,7 +184,8 @@ fn decode_all(
     samples: &mut [i16],
 ) -> History
     requires { ⌜ (length (now «data») ≡ framesOf count * 8) × ((count ≤ length (now samples)) × (count ≤ 65536)) ⌝ }
-    ensures samples { λ _. ⌜ now (samples .exit) ≡ decodedSamples sampleOf (now (coefficients .entry)) h (now («data» .entry)) count ++ drop count (now (samples .entry)) ⌝ }
+    ensures samples { λ _. ⌜ now (samples .exit) ≡
+        decodedSamples sampleOf (now (coefficients .entry)) h (now («data» .entry)) count ++ drop count (now (samples .entry)) ⌝ }
     ensures history { λ r. ⌜ r ≡ decodedHistory sampleOf (now (coefficients .entry)) h (now («data» .entry)) count ⌝ }
 {
     let mut last = h;
@@ -210,7 +216,8 @@ pub fn decode_adpcm(
     samples: &mut [i16],
 ) -> Decoded
     ensures answer { λ r. ⌜ r ≡ decodeAnswer (now (coefficients .entry)) history (now («data» .entry)) count (now (samples .entry)) ⌝ }
-    ensures output { λ _. ⌜ now (samples .exit) ≡ decodeOutput (now (coefficients .entry)) history (now («data» .entry)) count (now (samples .entry)) ⌝ }
+    ensures output { λ _. ⌜ now (samples .exit) ≡
+        decodeOutput (now (coefficients .entry)) history (now («data» .entry)) count (now (samples .entry)) ⌝ }
 {
     if count > 65536 {
         return Decoded { number: 9, history };
