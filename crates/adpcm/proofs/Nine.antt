@@ -14,7 +14,7 @@ use Rattle.lists.proofs.Walk.{below-or}
 use Rattle.adpcm.specs.declared.Decoded.{Decoded}
 use Rattle.adpcm.specs.Code.{framesOf}
 use Rattle.adpcm.specs.Adpcm.{refused}
-use Rattle.adpcm.specs.Nine.{WholeFrames, Wrong, NineExactlyIf}
+use Rattle.adpcm.specs.Nine.{WholeFrames, Refusable, NineExactlyIf}
 
 -- the test, where each of its parts is known
 module _ (bytes count places : ℕ) where
@@ -40,13 +40,13 @@ are-frames bytes count e = record { frames = framesOf count; all = e; enough = o
 -- the test passes and the sentence holds, or neither
 abbrev Told : List ℕ → ℕ → List ℤ → Type 0
 Told bytes count output =
-    ((refused (length bytes) count (length output) ≡ true) × Wrong bytes count output)
-    ⊎ ((refused (length bytes) count (length output) ≡ false) × (¬ Wrong bytes count output))
+    ((refused (length bytes) count (length output) ≡ true) × Refusable bytes count output)
+    ⊎ ((refused (length bytes) count (length output) ≡ false) × (¬ Refusable bytes count output))
 
 told : (bytes : List ℕ) (count : ℕ) (output : List ℤ) → Told bytes count output
 told bytes count output = ⊎-elim (λ l. inl (many _ count _ l, inl l)) few (below-or 65536 count)
   where
-    right : count ≤ 65536 → length bytes ≡ framesOf count * 8 → count ≤ length output → ¬ Wrong bytes count output
+    right : count ≤ 65536 → length bytes ≡ framesOf count * 8 → count ≤ length output → ¬ Refusable bytes count output
     right k e l (inl m) = omega arith
     right k e l (inr (inl m)) = m (are-frames bytes count e)
     right k e l (inr (inr m)) = omega arith

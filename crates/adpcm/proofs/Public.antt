@@ -7,7 +7,7 @@ use mathlib.Core.Logic.{⊎-elim}
 use Prim.Native.Nat.{ℕ, zero, suc, _+_, _-_, _*_, _/_, _%_, _^_, _≤_, _<_}
 use native.Mathlib.Decide.{ℕ-discrete}
 use native.Mathlib.Omega.{arith}
-use lib.Dec.{eqb, leb→le, lit<}
+use lib.Dec.{eqb, leb, ltb, leb→le, lit<}
 use lib.IntN.{ℤ, pos, negsuc, negℤ, _+ℤ_, _*ℤ_}
 use lib.ListN.{length, take, drop, getD, length-drop, List·getD-append, List·getD-map}
 use lib.Seq.{length-take-le, getD-take, getD-drop, getD-append-add, take-all, ext-getD}
@@ -49,18 +49,17 @@ floor-is (negsuc n) = sym (ap (λ (k : ℕ). negℤ (pos k)) (up n))
     up : (n : ℕ) → (suc n + 2047) / 2048 ≡ suc (n / 2048)
     up n = omega arith
 
--- the nearest number of 16 bits
+-- the nearest number of 16 bits: the two ask for the same bound, one from above and one from below
+past : (n : ℕ) (end z : ℤ) → cond (ltb 32767 n) end z ≡ cond (leb n 32767) z end
+past n end z =
+    ⊎-elim
+    (λ l. cond-yes _ _ (lt-ltb 32767 n l) ∙ sym (cond-no _ _ (lt-leb n 32767 l)))
+    (λ l. cond-no _ _ (le-ltb 32767 n l) ∙ sym (cond-yes _ _ (le-leb n 32767 l)))
+    (below-or 32767 n)
+
 clamp-is : (z : ℤ) → clamp16 z ≡ clamp z
-clamp-is (pos n) =
-    ⊎-elim
-    (λ l. cond-yes _ _ (lt-ltb 32767 n l) ∙ sym (cond-no _ _ (lt-leb n 32767 l)))
-    (λ l. cond-no _ _ (le-ltb 32767 n l) ∙ sym (cond-yes _ _ (le-leb n 32767 l)))
-    (below-or 32767 n)
-clamp-is (negsuc n) =
-    ⊎-elim
-    (λ l. cond-yes _ _ (lt-ltb 32767 n l) ∙ sym (cond-no _ _ (lt-leb n 32767 l)))
-    (λ l. cond-no _ _ (le-ltb 32767 n l) ∙ sym (cond-yes _ _ (le-leb n 32767 l)))
-    (below-or 32767 n)
+clamp-is (pos n) = past n (pos 32767) (pos n)
+clamp-is (negsuc n) = past n (negsuc 32767) (negsuc n)
 
 scaled-is : (z : ℤ) → scaledDown z ≡ clamp (floor z)
 scaled-is z = clamp-is (shrZ z 2048) ∙ ap clamp (floor-is z)
@@ -216,9 +215,10 @@ module _ (cs : List ℤ) (h : History) (bytes : List ℕ) (count : ℕ) (small :
 
 pub agrees-with-published : AgreesWithPublished
 agrees-with-published = record {
-  holds = λ cs h bytes count small whole clear fit. (
-    same-samples cs h bytes count small whole clear fit,
-    ap (historyAfter sampleOf h) (sym (take-all count _ (omega (arith, long cs h bytes count small whole clear fit))))
-        ∙ same-history cs h bytes count small whole clear fit count (omega arith),
-  );
+  holds = λ cs h bytes count frames small enough there clear fit. (
+      let whole : framesOf count * 8 ≤ length bytes = omega arith in (
+        same-samples cs h bytes count small whole clear fit,
+        ap (historyAfter sampleOf h) (sym (take-all count _ (omega (arith, long cs h bytes count small whole clear fit))))
+            ∙ same-history cs h bytes count small whole clear fit count (omega arith),
+      ));
 }

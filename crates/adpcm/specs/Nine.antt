@@ -16,14 +16,14 @@ pub record WholeFrames (bytes : List ℕ) (count : ℕ) : Type 0 where
   pub not-more : frames * 14 < count + 14
 
 -- "ADPCM count over 65,536, bytes not ceil(count/14) times 8, or output shorter than count"
-abbrev pub Wrong : List ℕ → ℕ → List ℤ → Type 0
-Wrong bytes count output = (65536 < count) ⊎ ((¬ WholeFrames bytes count) ⊎ (length output < count))
+abbrev pub Refusable : List ℕ → ℕ → List ℤ → Type 0
+Refusable bytes count output = (65536 < count) ⊎ ((¬ WholeFrames bytes count) ⊎ (length output < count))
 
 -- For all coefficients, histories, bytes, counts and outputs: the decoder answers 9 exactly if that sentence holds, and else 0.
 pub record NineExactlyIf : Type 0 where
   pub nine :
       (coefficients : List ℤ) (h : History) (bytes : List ℕ) (count : ℕ) (output : List ℤ)
-      → (decodeAnswer coefficients h bytes count output .number ≡ 9) ↔ Wrong bytes count output
+      → (decodeAnswer coefficients h bytes count output .number ≡ 9) ↔ Refusable bytes count output
   pub zero :
       (coefficients : List ℤ) (h : History) (bytes : List ℕ) (count : ℕ) (output : List ℤ)
-      → (decodeAnswer coefficients h bytes count output .number ≡ 0) ↔ (¬ Wrong bytes count output)
+      → (decodeAnswer coefficients h bytes count output .number ≡ 0) ↔ (¬ Refusable bytes count output)

@@ -15,7 +15,7 @@ use Rattle.adpcm.specs.declared.History.{History}
 abbrev pub header : List ℕ → ℕ → ℕ
 header bytes n = getD bytes (8 * (n / 14)) 0
 
--- the lower half of the header is the exponent of a scale, the upper half the number of a pair of coefficients, the predictor
+-- the lower half of the header is the exponent of a scale, the upper half the predictor, the number of one of eight pairs of coefficients
 abbrev pub exponent : List ℕ → ℕ → ℕ
 exponent bytes n = header bytes n % 16
 
@@ -32,14 +32,15 @@ nibble bytes n =
 abbrev pub signed : ℕ → ℤ
 signed k = cond (ltb k 8) (pos k) (pos k -ℤ pos 16)
 
--- the sum of sample n, in parts of 2048: the nibble times the scale, a half, and the two samples before, each times one of the pair
+-- the sum of sample n, in parts of 2048: the nibble times the scale, a half, and the two samples before it, the newer times the first
+-- coefficient of the pair and the older times the second
 unfoldable pub publicSum : List ℤ → List ℕ → History → ℕ → ℤ
 publicSum coefficients bytes before n =
     signed (nibble bytes n) *ℤ pos (2 ^ exponent bytes n) *ℤ pos 2048 +ℤ pos 1024
     +ℤ getD coefficients (2 * predictor bytes n) (pos 0) *ℤ before .yn1
     +ℤ getD coefficients (2 * predictor bytes n + 1) (pos 0) *ℤ before .yn2
 
--- a whole number by 2048, rounded down: one below 0 is minus a size, which is then rounded up
+-- a whole number divided by 2048, rounded down: where it is -(n + 1), minus what n + 1 gives rounded up
 abbrev pub floor : ℤ → ℤ
 floor (pos n) = pos (n / 2048)
 floor (negsuc n) = negℤ (pos ((suc n + 2047) / 2048))
