@@ -1,6 +1,7 @@
 pub mod Bools
 pub mod Chunks
 pub mod Fill
+pub mod Lowest
 pub mod Splice
 pub mod Tabulate
 pub mod Walk
