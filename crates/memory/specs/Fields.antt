@@ -2,83 +2,101 @@
 -- Assumes nothing: these are definitions.
 use Prim.Native.Nat.{ℕ, _+_, _*_}
 use Prim.Native.String.{String}
-use mathlib.Core.Bool.{cond}
+use mathlib.Core.Bool.{Bool, true, false, _||_, cond}
 use mathlib.Core.List.{List, [], _∷_}
 use lib.Text.{eqt}
 
--- a field with its name, or a gap, named after the offset of its first byte: bytes that the source does not read
+-- a field with its name; a gap, which is a field of the public descriptions that the source does not read; or bytes that have no name
 pub data Entry : Type 0 where
   field : String → ℕ → Entry
   gap : String → ℕ → Entry
+  padding : ℕ → Entry
 
 -- how many bytes an entry of a table takes
 abbrev pub size : Entry → ℕ
 size (field name n) = n
 size (gap name n) = n
+size (padding n) = n
 
 -- how many bytes a table takes
 abbrev pub total : List Entry → ℕ
 total [] = 0
 total (e ∷ es) = size e + total es
 
--- how many bytes stand before the field of a name
-abbrev pub offsetOf : List Entry → String → ℕ
-offsetOf [] name = 0
-offsetOf (gap other n ∷ es) name = n + offsetOf es name
-offsetOf (field other n ∷ es) name = cond (eqt other name) 0 (n + offsetOf es name)
+-- an entry is the field of a name
+abbrev pub isField : String → Entry → Bool
+isField name (field other n) = eqt other name
+isField name (gap other n) = false
+isField name (padding n) = false
 
--- the names of a table's fields
-abbrev pub namesOf : List Entry → List String
-namesOf [] = []
-namesOf (gap name n ∷ es) = namesOf es
-namesOf (field name n ∷ es) = name ∷ namesOf es
+-- the field of a name stands in a table
+abbrev pub has : List Entry → String → Bool
+has [] name = false
+has (e ∷ es) name = isField name e || has es name
 
--- from `at` on: where each field begins, and last where the table ends
-abbrev pub startsFrom : ℕ → List Entry → List ℕ
-startsFrom at [] = at ∷ []
-startsFrom at (gap name n ∷ es) = startsFrom (at + n) es
-startsFrom at (field name n ∷ es) = at ∷ startsFrom (at + n) es
+-- a number where a name is known, and where it is not no number at all: a misspelt name is refused wherever it is used
+abbrev pub Known : Bool → Type 0
+Known true = ℕ
+Known false = Unit {0}
 
--- where each field of a table begins, and last where the table ends
-abbrev pub offsetsOf : List Entry → List ℕ
-offsetsOf es = startsFrom 0 es
+abbrev pub known : (b : Bool) → ℕ → Known b
+known true n = n
+known false n = tt
+
+-- the bytes before the field of a name, and the bytes of the field
+abbrev pub before : List Entry → String → ℕ
+before [] name = 0
+before (e ∷ es) name = cond (isField name e) 0 (size e + before es name)
+
+abbrev pub taken : List Entry → String → ℕ
+taken [] name = 0
+taken (e ∷ es) name = cond (isField name e) (size e) (taken es name)
+
+-- where the field of a name begins in its structure
+abbrev pub offsetOf : (es : List Entry) (name : String) → Known (has es name)
+offsetOf es name = known (has es name) (before es name)
+
+-- how many bytes the field of a name takes
+abbrev pub sizeOf : (es : List Entry) (name : String) → Known (has es name)
+sizeOf es name = known (has es name) (taken es name)
 
 -- a slot of a voice's queue: address and length are dsp32
 abbrev pub slot : List Entry
 slot =
     field "ADDRESS" 4
     ∷ field "LENGTH" 4
-    ∷ gap "UNREAD_08" 2
+    ∷ gap "ADPCM_PREDICTOR_SCALE" 2
     ∷ field "ADPCM_YN" (2 * 2)
     ∷ field "HAS_ADPCM" 1
     ∷ field "LOOPING" 1
     ∷ field "BUFFER_ID" 2
-    ∷ gap "UNREAD_12" 2
+    ∷ padding 2
     ∷ []
 
--- a voice's configuration: 12 gains, b0 and a1 of the simple filter, a2, a1, b2, b1 and b0 of the biquad, 4 slots; play position, address and length are dsp32
+-- A voice's configuration: 12 gains, b0 and a1 of the simple filter, a2, a1, b2, b1 and b0 of the biquad, 4 slots; play position, address and
+-- length are dsp32.
 abbrev pub configuration : List Entry
 configuration =
     field "DIRTY" 4
     ∷ field "GAIN" (12 * 4)
     ∷ field "RATE_MULTIPLIER" 4
     ∷ field "INTERPOLATION" 1
-    ∷ gap "UNREAD_39" 1
+    ∷ padding 1
     ∷ field "FILTERS_ENABLED" 2
     ∷ field "SIMPLE_FILTER" (2 * 2)
     ∷ field "BIQUAD_FILTER" (5 * 2)
     ∷ field "BUFFERS_DIRTY" 2
     ∷ field "BUFFERS" (4 * total slot)
-    ∷ gap "UNREAD_9C" 4
+    ∷ gap "LOOP_RELATED" 4
     ∷ field "ENABLE" 1
-    ∷ gap "UNREAD_A1" 1
+    ∷ padding 1
     ∷ field "SYNC_COUNT" 2
     ∷ field "PLAY_POSITION" 4
-    ∷ gap "UNREAD_A8" 4
+    ∷ padding 4
     ∷ field "ADDRESS" 4
     ∷ field "LENGTH" 4
     ∷ field "FLAGS1" 2
-    ∷ gap "UNREAD_B6" 2
+    ∷ gap "ADPCM_PREDICTOR_SCALE" 2
     ∷ field "ADPCM_YN" (2 * 2)
     ∷ field "FLAGS2" 2
     ∷ field "BUFFER_ID" 2
@@ -101,9 +119,15 @@ mixerConfiguration =
     field "DIRTY" 4
     ∷ field "MASTER_VOLUME" 4
     ∷ field "AUX_RETURN_VOLUME" (2 * 4)
-    ∷ gap "UNREAD_10" 6
+    ∷ padding 6
     ∷ field "OUTPUT_FORMAT" 2
-    ∷ gap "UNREAD_18" 16
+    ∷ gap "CLIPPING_MODE" 2
+    ∷ gap "HEADPHONES_CONNECTED" 2
+    ∷ gap "SURROUND_DEPTH" 2
+    ∷ gap "SURROUND_SPEAKER_POSITION" 2
+    ∷ padding 2
+    ∷ gap "REAR_RATIO" 2
+    ∷ padding 4
     ∷ field "AUX_BUS_ENABLE" (2 * 2)
     ∷ []
 

@@ -1,6 +1,6 @@
 // Offsets into one voice's configuration.
 ghost use mathlib.Core.Path.{_≡_};
-ghost use Rattle.memory.specs.Fields.{configuration, offsetsOf};
+ghost use Rattle.memory.specs.Fields.{configuration, offsetOf, total};
 
 pub const DIRTY: usize = 0x00;
 
@@ -40,29 +40,25 @@ pub const BUFFER_ID: usize = 0xBE;
 
 pub const CONFIG_SIZE: usize = 192;
 
-// The constants in order: they are the offsets that the table of fields gives.
-pub fn offsets() -> [usize; 19]
-    ensures { λ r. ⌜ r ≡ offsetsOf configuration ⌝ }
-{
-    [
-        DIRTY,
-        GAIN,
-        RATE_MULTIPLIER,
-        INTERPOLATION,
-        FILTERS_ENABLED,
-        SIMPLE_FILTER,
-        BIQUAD_FILTER,
-        BUFFERS_DIRTY,
-        BUFFERS,
-        ENABLE,
-        SYNC_COUNT,
-        PLAY_POSITION,
-        ADDRESS,
-        LENGTH,
-        FLAGS1,
-        ADPCM_YN,
-        FLAGS2,
-        BUFFER_ID,
-        CONFIG_SIZE,
-    ]
-}
+// Each constant is the offset of the field of its name, and the size is that of the table.
+pub fn offsets()
+    ensures { λ _. do ⌜ (← ⟦DIRTY⟧ .entry) ≡ offsetOf configuration "DIRTY" ⌝ }
+    ensures { λ _. do ⌜ (← ⟦GAIN⟧ .entry) ≡ offsetOf configuration "GAIN" ⌝ }
+    ensures { λ _. do ⌜ (← ⟦RATE_MULTIPLIER⟧ .entry) ≡ offsetOf configuration "RATE_MULTIPLIER" ⌝ }
+    ensures { λ _. do ⌜ (← ⟦INTERPOLATION⟧ .entry) ≡ offsetOf configuration "INTERPOLATION" ⌝ }
+    ensures { λ _. do ⌜ (← ⟦FILTERS_ENABLED⟧ .entry) ≡ offsetOf configuration "FILTERS_ENABLED" ⌝ }
+    ensures { λ _. do ⌜ (← ⟦SIMPLE_FILTER⟧ .entry) ≡ offsetOf configuration "SIMPLE_FILTER" ⌝ }
+    ensures { λ _. do ⌜ (← ⟦BIQUAD_FILTER⟧ .entry) ≡ offsetOf configuration "BIQUAD_FILTER" ⌝ }
+    ensures { λ _. do ⌜ (← ⟦BUFFERS_DIRTY⟧ .entry) ≡ offsetOf configuration "BUFFERS_DIRTY" ⌝ }
+    ensures { λ _. do ⌜ (← ⟦BUFFERS⟧ .entry) ≡ offsetOf configuration "BUFFERS" ⌝ }
+    ensures { λ _. do ⌜ (← ⟦ENABLE⟧ .entry) ≡ offsetOf configuration "ENABLE" ⌝ }
+    ensures { λ _. do ⌜ (← ⟦SYNC_COUNT⟧ .entry) ≡ offsetOf configuration "SYNC_COUNT" ⌝ }
+    ensures { λ _. do ⌜ (← ⟦PLAY_POSITION⟧ .entry) ≡ offsetOf configuration "PLAY_POSITION" ⌝ }
+    ensures { λ _. do ⌜ (← ⟦ADDRESS⟧ .entry) ≡ offsetOf configuration "ADDRESS" ⌝ }
+    ensures { λ _. do ⌜ (← ⟦LENGTH⟧ .entry) ≡ offsetOf configuration "LENGTH" ⌝ }
+    ensures { λ _. do ⌜ (← ⟦FLAGS1⟧ .entry) ≡ offsetOf configuration "FLAGS1" ⌝ }
+    ensures { λ _. do ⌜ (← ⟦ADPCM_YN⟧ .entry) ≡ offsetOf configuration "ADPCM_YN" ⌝ }
+    ensures { λ _. do ⌜ (← ⟦FLAGS2⟧ .entry) ≡ offsetOf configuration "FLAGS2" ⌝ }
+    ensures { λ _. do ⌜ (← ⟦BUFFER_ID⟧ .entry) ≡ offsetOf configuration "BUFFER_ID" ⌝ }
+    ensures { λ _. do ⌜ (← ⟦CONFIG_SIZE⟧ .entry) ≡ total configuration ⌝ }
+{}

@@ -1,9 +1,12 @@
 // The seven places of a region, and the whole-call numbers 1, 2 and 3.
+use crate::config;
+use crate::mixer_config;
+use crate::status;
 ghost use mathlib.Core.Path.{_≡_};
-ghost use Prim.Native.Nat.{_+_, _≤_};
+ghost use Prim.Native.Nat.{_≤_};
 ghost use lib.Dec.{leb};
-ghost use lib.ListN.{length, drop};
-ghost use Rattle.memory.specs.Places.{apartTwo, inside, apartFrom, apart, layoutNumber};
+ghost use lib.ListN.{drop};
+ghost use Rattle.memory.specs.Places.{end, placesOf, apartTwo, inside, apartFrom, apart, layoutNumber};
 
 // Where each place begins, the same in both regions.
 pub struct Layout {
@@ -16,31 +19,75 @@ pub struct Layout {
     pub intermediate_samples: u32,
 }
 
-// Whether two places share no byte.
-fn apart_two(a: u32, s: u32, b: u32, t: u32) -> bool
-    ensures { λ r. ⌜ r ≡ apartTwo a s b t ⌝ }
+// A place: so many bytes from an offset on.
+pub struct Place {
+    pub at: u32,
+    pub size: u32,
+}
+
+const VOICES: u32 = 24;
+
+const CONFIGURATIONS: u32 = VOICES * (config::CONFIG_SIZE as u32);
+
+const STATUSES: u32 = VOICES * (status::STATUS_SIZE as u32);
+
+// 16 coefficients of 2 bytes for each voice.
+const COEFFICIENTS: u32 = VOICES * 16 * 2;
+
+const FRAME_COUNTER: u32 = 2;
+
+const MIXER_CONFIGURATION: u32 = mixer_config::CONFIG_SIZE as u32;
+
+// A frame's samples for 2 ears, of 2 bytes.
+const FINAL_SAMPLES: u32 = 160 * 2 * 2;
+
+// A frame's samples for 4 channels of 2 mixes, of 4 bytes.
+const INTERMEDIATE_SAMPLES: u32 = 2 * 4 * 160 * 4;
+
+const PLACES: usize = 7;
+
+const REGION_MOST: usize = 65536;
+
+// The places of a layout, each with its size.
+fn places_of(l: Layout) -> [Place; 7]
+    ensures { λ r. ⌜ r ≡ placesOf l ⌝ }
 {
-    if (a as u64) + (s as u64) <= (b as u64) {
+    [
+        Place { at: l.configurations, size: CONFIGURATIONS },
+        Place { at: l.statuses, size: STATUSES },
+        Place { at: l.coefficients, size: COEFFICIENTS },
+        Place { at: l.frame_counter, size: FRAME_COUNTER },
+        Place { at: l.mixer_configuration, size: MIXER_CONFIGURATION },
+        Place { at: l.final_samples, size: FINAL_SAMPLES },
+        Place { at: l.intermediate_samples, size: INTERMEDIATE_SAMPLES },
+    ]
+}
+
+// Whether two places share no byte.
+fn apart_two(p: Place, q: Place) -> bool
+    ensures { λ r. ⌜ r ≡ apartTwo p q ⌝ }
+{
+    if (p.at as u64) + (p.size as u64) <= (q.at as u64) {
         return true;
     }
-    (b as u64) + (t as u64) <= (a as u64)
+    (q.at as u64) + (q.size as u64) <= (p.at as u64)
 }
 
 // Whether a place ends within a region of n bytes.
-fn inside_one(n: usize, a: u32, s: u32) -> bool
-    ensures { λ r. ⌜ r ≡ leb (a + s) n ⌝ }
+fn inside_one(n: usize, p: Place) -> bool
+    ensures { λ r. ⌜ r ≡ leb (end p) n ⌝ }
 {
-    (a as usize) + (s as usize) <= n
+    (p.at as usize) + (p.size as usize) <= n
 }
 
 // Whether every place ends within a region of n bytes.
-fn all_inside(n: usize, at: &[u32], size: &[u32]) -> bool
-    requires { ⌜ length (now at) ≡ length (now size) ⌝ }
-    ensures { λ r. ⌜ r ≡ inside n (now (at .entry)) (now (size .entry)) ⌝ }
+fn all_inside(n: usize, places: [Place; 7]) -> bool
+    ensures { λ r. ⌜ r ≡ inside n places ⌝ }
 {
     let mut i = 0;
-    while i < at.len() {
-        if !inside_one(n, at[i], size[i]) {
+    while i < PLACES {
+        let p = places[i];
+        if !inside_one(n, p) {
             return false;
         }
         i += 1;
@@ -49,13 +96,14 @@ fn all_inside(n: usize, at: &[u32], size: &[u32]) -> bool
 }
 
 // Whether a place shares no byte with any of those from an index on.
-fn apart_from(a: u32, s: u32, at: &[u32], size: &[u32], from: usize) -> bool
-    requires { ⌜ (length (now at) ≡ length (now size)) × (from ≤ length (now at)) ⌝ }
-    ensures { λ r. ⌜ r ≡ apartFrom a s (drop from (now (at .entry))) (drop from (now (size .entry))) ⌝ }
+fn apart_from(p: Place, places: [Place; 7], from: usize) -> bool
+    requires { ⌜ from ≤ 7 ⌝ }
+    ensures { λ r. ⌜ r ≡ apartFrom p (drop from places) ⌝ }
 {
     let mut j = from;
-    while j < at.len() {
-        if !apart_two(a, s, at[j], size[j]) {
+    while j < PLACES {
+        let q = places[j];
+        if !apart_two(p, q) {
             return false;
         }
         j += 1;
@@ -64,13 +112,13 @@ fn apart_from(a: u32, s: u32, at: &[u32], size: &[u32], from: usize) -> bool
 }
 
 // Whether no two places share a byte.
-fn all_apart(at: &[u32], size: &[u32]) -> bool
-    requires { ⌜ length (now at) ≡ length (now size) ⌝ }
-    ensures { λ r. ⌜ r ≡ apart (now (at .entry)) (now (size .entry)) ⌝ }
+fn all_apart(places: [Place; 7]) -> bool
+    ensures { λ r. ⌜ r ≡ apart places ⌝ }
 {
     let mut i = 0;
-    while i < at.len() {
-        if !apart_from(at[i], size[i], at, size, i + 1) {
+    while i < PLACES {
+        let p = places[i];
+        if !apart_from(p, places, i + 1) {
             return false;
         }
         i += 1;
@@ -85,23 +133,14 @@ pub fn layout_number(first: usize, second: usize, l: Layout) -> u8
     if first != second {
         return 1;
     }
-    if first > 65536 {
+    if first > REGION_MOST {
         return 1;
     }
-    let at = [
-        l.configurations,
-        l.statuses,
-        l.coefficients,
-        l.frame_counter,
-        l.mixer_configuration,
-        l.final_samples,
-        l.intermediate_samples,
-    ];
-    let size = [4608u32, 288, 768, 2, 44, 640, 5120];
-    if !all_inside(first, &at, &size) {
+    let places = places_of(l);
+    if !all_inside(first, places) {
         return 2;
     }
-    if !all_apart(&at, &size) {
+    if !all_apart(places) {
         return 3;
     }
     0

@@ -1,6 +1,6 @@
 // Offsets into the mixer's configuration.
 ghost use mathlib.Core.Path.{_≡_};
-ghost use Rattle.memory.specs.Fields.{mixerConfiguration, offsetsOf};
+ghost use Rattle.memory.specs.Fields.{mixerConfiguration, offsetOf, total};
 
 pub const DIRTY: usize = 0x00;
 
@@ -14,16 +14,12 @@ pub const AUX_BUS_ENABLE: usize = 0x28;
 
 pub const CONFIG_SIZE: usize = 44;
 
-// The constants in order: they are the offsets that the table of fields gives.
-pub fn offsets() -> [usize; 6]
-    ensures { λ r. ⌜ r ≡ offsetsOf mixerConfiguration ⌝ }
-{
-    [
-        DIRTY,
-        MASTER_VOLUME,
-        AUX_RETURN_VOLUME,
-        OUTPUT_FORMAT,
-        AUX_BUS_ENABLE,
-        CONFIG_SIZE,
-    ]
-}
+// Each constant is the offset of the field of its name, and the size is that of the table.
+pub fn offsets()
+    ensures { λ _. do ⌜ (← ⟦DIRTY⟧ .entry) ≡ offsetOf mixerConfiguration "DIRTY" ⌝ }
+    ensures { λ _. do ⌜ (← ⟦MASTER_VOLUME⟧ .entry) ≡ offsetOf mixerConfiguration "MASTER_VOLUME" ⌝ }
+    ensures { λ _. do ⌜ (← ⟦AUX_RETURN_VOLUME⟧ .entry) ≡ offsetOf mixerConfiguration "AUX_RETURN_VOLUME" ⌝ }
+    ensures { λ _. do ⌜ (← ⟦OUTPUT_FORMAT⟧ .entry) ≡ offsetOf mixerConfiguration "OUTPUT_FORMAT" ⌝ }
+    ensures { λ _. do ⌜ (← ⟦AUX_BUS_ENABLE⟧ .entry) ≡ offsetOf mixerConfiguration "AUX_BUS_ENABLE" ⌝ }
+    ensures { λ _. do ⌜ (← ⟦CONFIG_SIZE⟧ .entry) ≡ total mixerConfiguration ⌝ }
+{}

@@ -1,6 +1,6 @@
 // Offsets into one queue slot of a voice's configuration.
 ghost use mathlib.Core.Path.{_≡_};
-ghost use Rattle.memory.specs.Fields.{slot, offsetsOf};
+ghost use Rattle.memory.specs.Fields.{slot, offsetOf, total};
 
 pub const ADDRESS: usize = 0;
 
@@ -16,17 +16,13 @@ pub const BUFFER_ID: usize = 16;
 
 pub const BUFFER_SIZE: usize = 20;
 
-// The constants in order: they are the offsets that the table of fields gives.
-pub fn offsets() -> [usize; 7]
-    ensures { λ r. ⌜ r ≡ offsetsOf slot ⌝ }
-{
-    [
-        ADDRESS,
-        LENGTH,
-        ADPCM_YN,
-        HAS_ADPCM,
-        LOOPING,
-        BUFFER_ID,
-        BUFFER_SIZE,
-    ]
-}
+// Each constant is the offset of the field of its name, and the size is that of the table.
+pub fn offsets()
+    ensures { λ _. do ⌜ (← ⟦ADDRESS⟧ .entry) ≡ offsetOf slot "ADDRESS" ⌝ }
+    ensures { λ _. do ⌜ (← ⟦LENGTH⟧ .entry) ≡ offsetOf slot "LENGTH" ⌝ }
+    ensures { λ _. do ⌜ (← ⟦ADPCM_YN⟧ .entry) ≡ offsetOf slot "ADPCM_YN" ⌝ }
+    ensures { λ _. do ⌜ (← ⟦HAS_ADPCM⟧ .entry) ≡ offsetOf slot "HAS_ADPCM" ⌝ }
+    ensures { λ _. do ⌜ (← ⟦LOOPING⟧ .entry) ≡ offsetOf slot "LOOPING" ⌝ }
+    ensures { λ _. do ⌜ (← ⟦BUFFER_ID⟧ .entry) ≡ offsetOf slot "BUFFER_ID" ⌝ }
+    ensures { λ _. do ⌜ (← ⟦BUFFER_SIZE⟧ .entry) ≡ total slot ⌝ }
+{}

@@ -1,6 +1,6 @@
 // Offsets into one voice's status.
 ghost use mathlib.Core.Path.{_≡_};
-ghost use Rattle.memory.specs.Fields.{status, offsetsOf};
+ghost use Rattle.memory.specs.Fields.{status, offsetOf, total};
 
 pub const ENABLED: usize = 0;
 
@@ -16,17 +16,13 @@ pub const LAST_BUFFER_ID: usize = 10;
 
 pub const STATUS_SIZE: usize = 12;
 
-// The constants in order: they are the offsets that the table of fields gives.
-pub fn offsets() -> [usize; 7]
-    ensures { λ r. ⌜ r ≡ offsetsOf status ⌝ }
-{
-    [
-        ENABLED,
-        BUFFER_UPDATE,
-        SYNC_COUNT,
-        POSITION,
-        CURRENT_BUFFER_ID,
-        LAST_BUFFER_ID,
-        STATUS_SIZE,
-    ]
-}
+// Each constant is the offset of the field of its name, and the size is that of the table.
+pub fn offsets()
+    ensures { λ _. do ⌜ (← ⟦ENABLED⟧ .entry) ≡ offsetOf status "ENABLED" ⌝ }
+    ensures { λ _. do ⌜ (← ⟦BUFFER_UPDATE⟧ .entry) ≡ offsetOf status "BUFFER_UPDATE" ⌝ }
+    ensures { λ _. do ⌜ (← ⟦SYNC_COUNT⟧ .entry) ≡ offsetOf status "SYNC_COUNT" ⌝ }
+    ensures { λ _. do ⌜ (← ⟦POSITION⟧ .entry) ≡ offsetOf status "POSITION" ⌝ }
+    ensures { λ _. do ⌜ (← ⟦CURRENT_BUFFER_ID⟧ .entry) ≡ offsetOf status "CURRENT_BUFFER_ID" ⌝ }
+    ensures { λ _. do ⌜ (← ⟦LAST_BUFFER_ID⟧ .entry) ≡ offsetOf status "LAST_BUFFER_ID" ⌝ }
+    ensures { λ _. do ⌜ (← ⟦STATUS_SIZE⟧ .entry) ≡ total status ⌝ }
+{}

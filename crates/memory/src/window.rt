@@ -3,11 +3,14 @@ ghost use mathlib.Core.Path.{_≡_};
 ghost use lib.ListN.{length};
 ghost use Rattle.memory.specs.Window.{presentIn, lookUp, windowNumber};
 
+// One more than the last 32-bit address.
+const ADDRESSES: usize = 4294967296;
+
 // 4 if a window of so many bytes ends past the last 32-bit address, else 0.
 pub fn window_number(base: u32, size: usize) -> u8
     ensures { λ r. ⌜ r ≡ windowNumber base size ⌝ }
 {
-    let room = 4294967296 - (base as usize);
+    let room = ADDRESSES - (base as usize);
     if size > room { 4 } else { 0 }
 }
 

@@ -9,35 +9,32 @@ use borrow.Author.Needs.{needs}
 use borrow.Author.Tests.{not-true, not-false}
 use Rattle.lists.proofs.Bools.{and-no, and-yes}
 use Rattle.lists.proofs.Walk.{drop-next, drop-end}
-use Rattle.memory.specs.Places.{apartFrom, apart}
+use Rattle.memory.specs.declared.layout.Place.{Place}
+use Rattle.memory.specs.Places.{place, apartFrom, apart}
 use Rattle.memory.proofs.layout.all_apart.Statement.{statement}
 use Rattle.memory.proofs.layout.all_apart.Tie as tie
 
 abbrev Inv-loop : tie.InvT-loop
-Inv-loop at size i₀ i = (i ≤ length at) × (apart at size ≡ apart (drop i at) (drop i size))
+Inv-loop places i₀ i = (i ≤ 7) × (apart places ≡ apart (drop i places))
 
 abbrev μ-loop : tie.MeasureT-loop
-μ-loop at size i₀ i = length at - i
+μ-loop places i₀ i = 7 - i
 
 -- what a turn reads of the definition
-step : (at size : List ℕ) (i : ℕ) → length at ≡ length size → i < length at
-    → apart (drop i at) (drop i size) ≡ (apartFrom (getD at i 0) (getD size i 0) (drop (i + 1) at) (drop (i + 1) size) && apart (drop (i + 1) at) (drop (i + 1) size))
-step at size i e h = rw (drop-next at i 0 h, drop-next size i 0 (omega arith))
+step : (ps : List Place) (i : ℕ) → i < length ps → apart (drop i ps) ≡ (apartFrom (getD ps i (place 0 0)) (drop (i + 1) ps) && apart (drop (i + 1) ps))
+step ps i h = rw (drop-next ps i (place 0 0) h)
+
+seven : (c : tie.Start Inv-loop μ-loop) → length (c .args .t1) ≡ 7
+seven c = search needs
 
 loop-holds : tie.Need-loop-holds Inv-loop μ-loop
 loop-holds c = search needs
 
-mul-apart-from : tie.Need-mul-apart-from Inv-loop μ-loop
-mul-apart-from c = search needs
+mul-p : tie.Need-mul-p Inv-loop μ-loop
+mul-p c = search needs
 
-shared-slice-read-apart-from : tie.Need-shared-slice-read-apart-from Inv-loop μ-loop
-shared-slice-read-apart-from c = search needs
-
-mul-apart-from-2 : tie.Need-mul-apart-from-2 Inv-loop μ-loop
-mul-apart-from-2 c = search needs
-
-shared-slice-read-apart-from-2 : tie.Need-shared-slice-read-apart-from-2 Inv-loop μ-loop
-shared-slice-read-apart-from-2 c = search needs
+array-copy-out-p : tie.Need-array-copy-out-p Inv-loop μ-loop
+array-copy-out-p c = search needs
 
 add-apart-from : tie.Need-add-apart-from Inv-loop μ-loop
 add-apart-from c = search needs
@@ -47,9 +44,9 @@ apart-from-requires c κs = search needs
 
 returns : tie.Need-returns Inv-loop μ-loop
 returns c =
-    let a = c .before .before .before .before .before .before .before .before in
-    let l = c .before .before .before .before .before .loop in
-    sym (l .inv .1 ∙ step (a .args .at .now) (a .args .size .now) (l .i) (a .pre) (omega arith)
+    let a = c .before .before .before .before .before in
+    let l = c .before .before .before .before .loop in
+    sym (l .inv .1 ∙ step (a .args .t1) (l .i) (omega (arith, seven a))
     ∙ and-no _ (sym (c .before .apart-from .ensures) ∙ not-true _ (c .if1 .taken)))
 
 add-i : tie.Need-add-i Inv-loop μ-loop
@@ -60,18 +57,18 @@ loop-less c = search needs
 
 loop-again : tie.Need-loop-again Inv-loop μ-loop
 loop-again c =
-    let a = c .before .before .before .before .before .before .before .before in
-    let l = c .before .before .before .before .before .loop in (
+    let a = c .before .before .before .before .before in
+    let l = c .before .before .before .before .loop in (
       omega arith,
-      l .inv .1 ∙ step (a .args .at .now) (a .args .size .now) (l .i) (a .pre) (omega arith)
+      l .inv .1 ∙ step (a .args .t1) (l .i) (omega (arith, seven a))
           ∙ and-yes _ (sym (c .before .apart-from .ensures) ∙ not-false _ (c .if1 .left)),
     )
 
 returns-2 : tie.Need-returns-2 Inv-loop μ-loop
 returns-2 c =
-    let a = c .before .before .before .before in
+    let a = c .before .before in
     let l = c .before .loop in
-    sym (l .inv .1 ∙ ap (λ (r : List ℕ). apart r (drop (l .i) (a .args .size .now))) (drop-end (a .args .at .now) (l .i) (c .loop-test .left)))
+    sym (l .inv .1 ∙ ap apart (drop-end (a .args .t1) (l .i) (omega (arith, seven a))))
 
 pub all-apart-spec : {M : Type 1} → statement M
 all-apart-spec =
@@ -80,10 +77,8 @@ all-apart-spec =
     Inv-loop
     μ-loop
     loop-holds
-    mul-apart-from
-    shared-slice-read-apart-from
-    mul-apart-from-2
-    shared-slice-read-apart-from-2
+    mul-p
+    array-copy-out-p
     add-apart-from
     apart-from-requires
     returns

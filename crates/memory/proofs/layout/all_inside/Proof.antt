@@ -10,44 +10,41 @@ use borrow.Author.Needs.{needs}
 use borrow.Author.Tests.{not-true, not-false}
 use Rattle.lists.proofs.Bools.{and-no, and-yes}
 use Rattle.lists.proofs.Walk.{drop-next, drop-end}
-use Rattle.memory.specs.Places.{inside}
+use Rattle.memory.specs.declared.layout.Place.{Place}
+use Rattle.memory.specs.Places.{place, end, inside}
 use Rattle.memory.proofs.layout.all_inside.Statement.{statement}
 use Rattle.memory.proofs.layout.all_inside.Tie as tie
 
 abbrev Inv-loop : tie.InvT-loop
-Inv-loop n at size i₀ i = (i ≤ length at) × (inside n at size ≡ inside n (drop i at) (drop i size))
+Inv-loop n places i₀ i = (i ≤ 7) × (inside n places ≡ inside n (drop i places))
 
 abbrev μ-loop : tie.MeasureT-loop
-μ-loop n at size i₀ i = length at - i
+μ-loop n places i₀ i = 7 - i
 
 -- what a turn reads of the definition
-step : (n : ℕ) (at size : List ℕ) (i : ℕ) → length at ≡ length size → i < length at
-    → inside n (drop i at) (drop i size) ≡ (leb (getD at i 0 + getD size i 0) n && inside n (drop (i + 1) at) (drop (i + 1) size))
-step n at size i e h = rw (drop-next at i 0 h, drop-next size i 0 (omega arith))
+step : (n : ℕ) (ps : List Place) (i : ℕ) → i < length ps → inside n (drop i ps) ≡ (leb (end (getD ps i (place 0 0))) n && inside n (drop (i + 1) ps))
+step n ps i h = rw (drop-next ps i (place 0 0) h)
+
+seven : (c : tie.Start Inv-loop μ-loop) → length (c .args .t2) ≡ 7
+seven c = search needs
 
 loop-holds : tie.Need-loop-holds Inv-loop μ-loop
 loop-holds c = search needs
 
-mul-inside-one : tie.Need-mul-inside-one Inv-loop μ-loop
-mul-inside-one c = search needs
+mul-p : tie.Need-mul-p Inv-loop μ-loop
+mul-p c = search needs
 
-shared-slice-read-inside-one : tie.Need-shared-slice-read-inside-one Inv-loop μ-loop
-shared-slice-read-inside-one c = search needs
-
-mul-inside-one-2 : tie.Need-mul-inside-one-2 Inv-loop μ-loop
-mul-inside-one-2 c = search needs
-
-shared-slice-read-inside-one-2 : tie.Need-shared-slice-read-inside-one-2 Inv-loop μ-loop
-shared-slice-read-inside-one-2 c = search needs
+array-copy-out-p : tie.Need-array-copy-out-p Inv-loop μ-loop
+array-copy-out-p c = search needs
 
 inside-one-requires : tie.Need-inside-one-requires Inv-loop μ-loop
 inside-one-requires c κs = search needs
 
 returns : tie.Need-returns Inv-loop μ-loop
 returns c =
-    let a = c .before .before .before .before .before .before .before .before in
-    let l = c .before .before .before .before .before .loop in
-    sym (l .inv .1 ∙ step (a .args .n) (a .args .at .now) (a .args .size .now) (l .i) (a .pre) (omega arith)
+    let a = c .before .before .before .before .before in
+    let l = c .before .before .before .before .loop in
+    sym (l .inv .1 ∙ step (a .args .n) (a .args .t2) (l .i) (omega (arith, seven a))
     ∙ and-no _ (sym (c .before .inside-one .ensures) ∙ not-true _ (c .if1 .taken)))
 
 add-i : tie.Need-add-i Inv-loop μ-loop
@@ -58,18 +55,18 @@ loop-less c = search needs
 
 loop-again : tie.Need-loop-again Inv-loop μ-loop
 loop-again c =
-    let a = c .before .before .before .before .before .before .before .before in
-    let l = c .before .before .before .before .before .loop in (
+    let a = c .before .before .before .before .before in
+    let l = c .before .before .before .before .loop in (
       omega arith,
-      l .inv .1 ∙ step (a .args .n) (a .args .at .now) (a .args .size .now) (l .i) (a .pre) (omega arith)
+      l .inv .1 ∙ step (a .args .n) (a .args .t2) (l .i) (omega (arith, seven a))
           ∙ and-yes _ (sym (c .before .inside-one .ensures) ∙ not-false _ (c .if1 .left)),
     )
 
 returns-2 : tie.Need-returns-2 Inv-loop μ-loop
 returns-2 c =
-    let a = c .before .before .before .before in
+    let a = c .before .before in
     let l = c .before .loop in
-    sym (l .inv .1 ∙ ap (λ (r : List ℕ). inside (a .args .n) r (drop (l .i) (a .args .size .now))) (drop-end (a .args .at .now) (l .i) (c .loop-test .left)))
+    sym (l .inv .1 ∙ ap (inside (a .args .n)) (drop-end (a .args .t2) (l .i) (omega (arith, seven a))))
 
 pub all-inside-spec : {M : Type 1} → statement M
 all-inside-spec =
@@ -78,10 +75,8 @@ all-inside-spec =
     Inv-loop
     μ-loop
     loop-holds
-    mul-inside-one
-    shared-slice-read-inside-one
-    mul-inside-one-2
-    shared-slice-read-inside-one-2
+    mul-p
+    array-copy-out-p
     inside-one-requires
     returns
     add-i

@@ -1,83 +1,72 @@
--- `layout::layout_number` meets its contract: each way out is one outcome of the chain of tests, lowest number first. Assumes nothing.
-use mathlib.Core.Path.{_≡_, sym, _∙_}
-use mathlib.Core.Bool.{true, false, not, _||_}
-use Prim.Native.Nat.{ℕ, _≤_, _<_}
-use lib.Dec.{eqb, ltb}
+-- `layout::layout_number` meets its contract: each way out says which rule is the first that applies. Assumes nothing.
+use mathlib.Core.Path.{_≡_, refl, sym, ap, _∙_}
+use mathlib.Core.Bool.{Bool, true, false, not, _||_}
+use Prim.Native.Nat.{ℕ, _≤_}
+use lib.Dec.{eqb, ltb, lit<}
 use borrow.Author.Needs.{needs}
 use borrow.Author.Tests.{eq-eqb, ne-eqb, lt-ltb, le-ltb, not-true, not-false}
-use Rattle.lists.proofs.Bools.{or-no, or-yes, not-yes, not-no, cond-yes, cond-no}
-use Rattle.memory.specs.declared.layout.Layout.{Layout}
-use Rattle.memory.specs.Places.{inside, apart, sizes, placesOf, layoutNumber}
+use Rattle.lists.specs.Lowest.{Given}
+use Rattle.lists.proofs.Bools.{or-no, or-yes, not-yes, not-no}
+use Rattle.lists.proofs.Lowest.{lowest-given}
+use Rattle.memory.specs.Places.{inside, apart, placesOf, regionMost, layoutRules}
 use Rattle.memory.proofs.layout.layout_number.Statement.{statement}
 use Rattle.memory.proofs.layout.layout_number.Tie as tie
 
--- the lengths are right
-right : (first second : ℕ) → first ≡ second → first ≤ 65536 → (not (eqb first second) || ltb 65536 first) ≡ false
-right first second e h = or-no _ (not-yes (eq-eqb first second e)) ∙ le-ltb 65536 first h
+-- the rules at a call
+abbrev Number : tie.Start → Type 0
+Number c = Given (layoutRules (c .args .first) (c .args .second) (c .args .l))
 
-module _ (first second : ℕ) (l : Layout) where
-  one : (first ≡ second → ⊥) → 1 ≡ layoutNumber first second l
-  one h = sym (cond-yes 1 _ (or-yes _ (not-no (ne-eqb first second h))))
+number : (c : tie.Start) → Number c
+number c = lowest-given (layoutRules (c .args .first) (c .args .second) (c .args .l)) refl
 
-  one-more : first ≡ second → 65536 < first → 1 ≡ layoutNumber first second l
-  one-more e h = sym (cond-yes 1 _ (or-no _ (not-yes (eq-eqb first second e)) ∙ lt-ltb 65536 first h))
+-- past the first two tests rule 1 does not apply
+lengths : (c : tie.Else2) → let a = c .before .before .args in (not (eqb (a .first) (a .second)) || ltb regionMost (a .first)) ≡ false
+lengths c = or-no _ (not-yes (eq-eqb _ _ (c .before .if1 .left))) ∙ le-ltb regionMost _ (c .if2 .left)
 
-  two : first ≡ second → first ≤ 65536 → inside first (placesOf l) sizes ≡ false → 2 ≡ layoutNumber first second l
-  two e h i = sym (cond-no 1 _ (right first second e h) ∙ cond-yes 2 _ (not-no i))
+-- what the test of the places' ends says of rule 2
+ends : (c : tie.After-all-inside) → let a = c .before .before .before .before .args in c .all-inside .result ≡ inside (a .first) (placesOf (a .l))
+ends c = c .all-inside .ensures ∙ ap (inside _) (c .before .places-of .ensures)
 
-  three : first ≡ second → first ≤ 65536 → inside first (placesOf l) sizes ≡ true → apart (placesOf l) sizes ≡ false → 3 ≡ layoutNumber first second l
-  three e h i a = sym (cond-no 1 _ (right first second e h) ∙ cond-no 2 _ (not-yes i) ∙ cond-yes 3 _ (not-no a))
+-- past it rule 2 does not apply
+ends-right : (c : tie.Else3) → let a = c .before .before .before .before .before .args in not (inside (a .first) (placesOf (a .l))) ≡ false
+ends-right c = not-yes (sym (ends (c .before)) ∙ not-false _ (c .if3 .left))
 
-  none : first ≡ second → first ≤ 65536 → inside first (placesOf l) sizes ≡ true → apart (placesOf l) sizes ≡ true → 0 ≡ layoutNumber first second l
-  none e h i a = sym (cond-no 1 _ (right first second e h) ∙ cond-no 2 _ (not-yes i) ∙ cond-no 3 _ (not-yes a))
+-- what the last test says of rule 3
+shared : (c : tie.After-all-apart) → let a = c .before .before .before .before .before .before .args in c .all-apart .result ≡ apart (placesOf (a .l))
+shared c = c .all-apart .ensures ∙ ap apart (c .before .before .before .places-of .ensures)
 
 returns : tie.Need-returns
-returns c =
-    let a = c .before .args in
-    one (a .first) (a .second) (a .l) (c .if1 .taken)
+returns c = sym (number (c .before) .given 0 (lit< tt) .1 (or-yes _ (not-no (ne-eqb _ _ (c .if1 .taken)))))
 
 returns-2 : tie.Need-returns-2
 returns-2 c =
-    let a = c .before .before .args in
-    one-more (a .first) (a .second) (a .l) (c .before .if1 .left) (c .if2 .taken)
+    sym (number (c .before .before) .given 0 (lit< tt) .1 (or-no _ (not-yes (eq-eqb _ _ (c .before .if1 .left))) ∙ lt-ltb regionMost _ (c .if2 .taken)))
 
-slice-aggregate-all-inside : tie.Need-slice-aggregate-all-inside
-slice-aggregate-all-inside c = search needs
-
-slice-aggregate-all-inside-2 : tie.Need-slice-aggregate-all-inside-2
-slice-aggregate-all-inside-2 c = search needs
+places-of-requires : tie.Need-places-of-requires
+places-of-requires c κs = search needs
 
 all-inside-requires : tie.Need-all-inside-requires
 all-inside-requires c κs = search needs
 
 returns-3 : tie.Need-returns-3
 returns-3 c =
-    let e = c .before .before .before .before in
-    let a = e .before .before .args in
-    two (a .first) (a .second) (a .l) (e .before .if1 .left) (e .if2 .left) (sym (c .before .all-inside .ensures) ∙ not-true _ (c .if3 .taken))
-
-slice-aggregate-all-apart : tie.Need-slice-aggregate-all-apart
-slice-aggregate-all-apart c = search needs
-
-slice-aggregate-all-apart-2 : tie.Need-slice-aggregate-all-apart-2
-slice-aggregate-all-apart-2 c = search needs
+    let e = c .before .before .before in
+    sym (number (e .before .before) .given 1 (lit< tt) .1 (lengths e, not-no (sym (ends (c .before)) ∙ not-true _ (c .if3 .taken))))
 
 all-apart-requires : tie.Need-all-apart-requires
 all-apart-requires c κs = search needs
 
 returns-4 : tie.Need-returns-4
 returns-4 c =
-    let i = c .before .before .before .before in
-    let e = i .before .before .before .before in
-    let a = e .before .before .args in
-    three (a .first) (a .second) (a .l) (e .before .if1 .left) (e .if2 .left) (sym (i .before .all-inside .ensures) ∙ not-false _ (i .if3 .left)) (sym (c .before .all-apart .ensures) ∙ not-true _ (c .if4 .taken))
+    let i = c .before .before in
+    let e = i .before .before .before in
+    sym (number (e .before .before) .given 2 (lit< tt) .1 (lengths e, (ends-right i, not-no (sym (shared (c .before)) ∙ not-true _ (c .if4 .taken)))))
 
 returns-5 : tie.Need-returns-5
 returns-5 c =
-    let i = c .before .before .before .before in
-    let e = i .before .before .before .before in
-    let a = e .before .before .args in
-    none (a .first) (a .second) (a .l) (e .before .if1 .left) (e .if2 .left) (sym (i .before .all-inside .ensures) ∙ not-false _ (i .if3 .left)) (sym (c .before .all-apart .ensures) ∙ not-false _ (c .if4 .left))
+    let i = c .before .before in
+    let e = i .before .before .before in
+    sym (number (e .before .before) .nothing .1 (lengths e, (ends-right i, (not-yes (sym (shared (c .before)) ∙ not-false _ (c .if4 .left)), tt))))
 
 pub layout-number-spec : {M : Type 1} → statement M
 layout-number-spec =
@@ -85,12 +74,9 @@ layout-number-spec =
     (tie.spec
     returns
     returns-2
-    slice-aggregate-all-inside
-    slice-aggregate-all-inside-2
+    places-of-requires
     all-inside-requires
     returns-3
-    slice-aggregate-all-apart
-    slice-aggregate-all-apart-2
     all-apart-requires
     returns-4
     returns-5)
