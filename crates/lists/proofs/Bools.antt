@@ -29,6 +29,10 @@ not-yes e = ap not e
 pub not-no : {b : Bool} → b ≡ false → not b ≡ true
 not-no e = ap not e
 
+-- no test both holds and fails
+pub clash : true ≡ false → ⊥
+clash e = let z : _≡_ {A = ℕ} 0 1 = cc in omega arith
+
 pub and-both : (x y : Bool) → (x && y) ≡ true → (x ≡ true) × (y ≡ true)
 and-both true y t = (refl, t)
 and-both false y t = (t, clash t)

@@ -10,7 +10,7 @@ use lib.Dec.{ltb}
 use lib.ListN.{length, getD}
 use borrow.Author.Tests.{ltb-true}
 use Rattle.lists.specs.Lowest.{Rule, rule, lowest, rising, First, None, Given}
-use Rattle.lists.proofs.Bools.{and-both, cond-yes, cond-no}
+use Rattle.lists.proofs.Bools.{clash, and-both, cond-yes, cond-no}
 
 -- a test holds, or it does not
 pub holds-or : (b : Bool) → (b ≡ true) ⊎ (b ≡ false)
@@ -20,13 +20,7 @@ holds-or false = inr refl
 -- a test that says a sentence fails exactly if the sentence does not hold
 pub fails-if : {S : Type 0} (b : Bool) → (b ≡ true) ↔ S → (b ≡ false) ↔ (S → ⊥)
 fails-if true e = (λ f s. clash f, λ n. absurd (n (e .0 refl)))
-  where
-    clash : true ≡ false → ⊥
-    clash f = let z : _≡_ {A = ℕ} 0 1 = cc in omega arith
-fails-if false e = (λ f s. clash (e .1 s), λ n. refl)
-  where
-    clash : false ≡ true → ⊥
-    clash f = let z : _≡_ {A = ℕ} 0 1 = cc in omega arith
+fails-if false e = (λ f s. clash (sym (e .1 s)), λ n. refl)
 
 module _ (n : ℕ) (r : Rule) (rs : List Rule) (up : rising n (r ∷ rs) ≡ true) where
   first-above : n < r .number

@@ -1,23 +1,35 @@
--- What being present means, byte by byte, and the look-up by its cases: the test of the two ends says the same of every byte between. Assumes nothing.
+-- When number 4 is given, and what the look-up means byte by byte: the test of the two ends says the same of every byte between. Assumes nothing.
 use mathlib.Core.Path.{_≡_, sym, ap, _∙_}
 use mathlib.Core.Bool.{true, false}
 use mathlib.Core.List.{List, []}
-use mathlib.Core.Logic.{⊎-elim, _↔_}
-use Prim.Native.Nat.{ℕ, _+_, _-_, _≤_, _<_}
+use mathlib.Core.Logic.{_⊎_, inl, inr, ⊎-elim}
+use Prim.Native.Nat.{ℕ, _+_, _-_, _^_, _≤_, _<_}
 use native.Mathlib.Omega.{arith}
-use lib.Dec.{ltb, leb}
-use lib.ListN.{length}
-use borrow.Author.Tests.{eq-eqb, ne-eqb, le-leb, lt-leb, leb-true, le-ltb, ltb-false}
+use lib.Dec.{leb}
+use lib.ListN.{length, getD}
+use borrow.Author.Tests.{eq-eqb, ne-eqb, le-leb, lt-leb, leb-true, lt-ltb, le-ltb}
 use Rattle.lists.specs.Splice.{part}
-use Rattle.lists.proofs.Splice.{length-part}
+use Rattle.lists.proofs.Splice.{length-part, part-at}
 use Rattle.lists.proofs.Walk.{below-or}
-use Rattle.lists.proofs.Bools.{or-no, or-yes, and-no, and-yes, and-both, cond-yes, cond-no, passed}
-use Rattle.memory.specs.Window.{presentIn, lookUp, windowNumber}
+use Rattle.lists.proofs.Bools.{or-no, or-yes, and-no, and-yes, and-both, cond-yes, cond-no}
+use Rattle.lists.proofs.Lowest.{fails-if}
+use Rattle.memory.specs.Window.{windowNumber, WindowExactly, presentIn, lookUp, LiesInside, AllInside, byteOf, LookedUp}
 
--- number 4 is not given exactly if the window ends within the 32-bit addresses
-pub window-fits : (base size : ℕ) → windowNumber base size ≡ 0 ↔ base + size ≤ 4294967296
-window-fits base size =
-    (λ e. ltb-false 4294967296 (base + size) (passed (ltb 4294967296 (base + size)) 3 0 e .0), λ h. cond-no 4 0 (le-ltb 4294967296 (base + size) h))
+pub window-exactly : (base size : ℕ) → WindowExactly base size
+window-exactly base size = record { four = (λ e. over (below-or (2 ^ 32) (base + size)) e, λ h. four h); none = (λ e h. never (four h) e, λ n. fits (λ h. n h)) }
+  where
+    four : 2 ^ 32 < base + size → windowNumber base size ≡ 4
+    four h = cond-yes 4 0 (lt-ltb (2 ^ 32) (base + size) h)
+
+    never : windowNumber base size ≡ 4 → windowNumber base size ≡ 0 → ⊥
+    never f z = omega (arith, sym f ∙ z)
+
+    over : (2 ^ 32 < base + size) ⊎ (base + size ≤ 2 ^ 32) → windowNumber base size ≡ 4 → 2 ^ 32 < base + size
+    over (inl h) e = h
+    over (inr h) e = absurd (never e (cond-no 4 0 (le-ltb (2 ^ 32) (base + size) h)))
+
+    fits : (2 ^ 32 < base + size → ⊥) → windowNumber base size ≡ 0
+    fits n = cond-no 4 0 (le-ltb (2 ^ 32) (base + size) (⊎-elim (λ h. absurd (n h)) (λ h. h) (below-or (2 ^ 32) (base + size))))
 
 module _ (size base address count : ℕ) where
   -- the cases of being present: nothing is asked for; the address lies before the window; it does not
@@ -37,7 +49,7 @@ module _ (size base address count : ℕ) where
       (leb-true base address (b .0), leb-true (address + count) (base + size) (b .1))
 
   -- present: each byte asked for lies in the window
-  pub each : presentIn size base address count ≡ true → (k : ℕ) → k < count → (base ≤ address + k) × (address + k < base + size)
+  pub each : presentIn size base address count ≡ true → AllInside size base address count
   each t k h = let i = inside t (λ e. some e h) in (omega arith, omega arith)
     where
       some : count ≡ 0 → k < count → ⊥
@@ -55,7 +67,7 @@ module _ (window : List ℕ) (base address count : ℕ) where
   there t = sym (cond-yes _ _ t)
 
 -- and where each byte asked for lies in the window, they are present
-pub present-if : (size base address count : ℕ) → ((k : ℕ) → k < count → (base ≤ address + k) × (address + k < base + size)) → presentIn size base address count ≡ true
+pub present-if : (size base address count : ℕ) → AllInside size base address count → presentIn size base address count ≡ true
 present-if size base address count f = ⊎-elim (λ h. some h) (λ h. nothing size base address count (omega arith)) (below-or 0 count)
   where
     some : 0 < count → presentIn size base address count ≡ true
@@ -64,14 +76,33 @@ present-if size base address count f = ⊎-elim (λ h. some h) (λ h. nothing si
         let last = f (count - 1) (omega arith) in
         from size base address count (λ e. omega arith) (omega arith) ∙ le-leb (address + count) (base + size) (omega arith)
 
--- what is there is as long as was asked
-pub there-long : (window : List ℕ) (base address count : ℕ) → presentIn (length window) base address count ≡ true → length (lookUp window base address count) ≡ count
-there-long window base address count t =
-    ⊎-elim
-    (λ h. let i = inside (length window) base address count t (λ e. omega arith) in
-    ap length (sym (there window base address count t)) ∙ length-part (address - base) count window (omega arith))
-    (λ h. ap length (sym (none-asked window base address count (omega arith))) ∙ zero-is h)
-    (below-or 0 count)
-  where
-    zero-is : count ≤ 0 → 0 ≡ count
-    zero-is h = omega arith
+module _ (window : List ℕ) (base address count : ℕ) where
+  -- what is there is as long as was asked
+  pub there-long : presentIn (length window) base address count ≡ true → length (lookUp window base address count) ≡ count
+  there-long t =
+      ⊎-elim
+      (λ h. let i = inside (length window) base address count t (λ e. omega arith) in
+      ap length (sym (there window base address count t)) ∙ length-part (address - base) count window (omega arith))
+      (λ h. ap length (sym (none-asked window base address count (omega arith))) ∙ zero-is h)
+      (below-or 0 count)
+    where
+      zero-is : count ≤ 0 → 0 ≡ count
+      zero-is h = omega arith
+
+  -- and byte k of it is the window's
+  there-at : presentIn (length window) base address count ≡ true
+      → (k : ℕ) → k < count → getD (lookUp window base address count) k 0 ≡ byteOf window base (address + k)
+  there-at t k h =
+      ap (λ (l : List ℕ). getD l k 0) (sym (there window base address count t)) ∙ part-at (address - base) count window k 0 h
+      ∙ ap (λ (i : ℕ). getD window i 0) (index (each (length window) base address count t 0 (omega arith)))
+    where
+      index : LiesInside (length window) base (address + 0) → address - base + k ≡ address + k - base
+      index i = omega arith
+
+  pub looked-up : LookedUp window base address count
+  looked-up = record {
+    present = (each (length window) base address count, present-if (length window) base address count);
+    long = λ f. there-long (present-if (length window) base address count f);
+    bytes = λ f. there-at (present-if (length window) base address count f);
+    absent = λ n. sym (absent window base address count (fails-if _ (each (length window) base address count, present-if (length window) base address count) .1 n));
+  }

@@ -53,13 +53,34 @@ fn places_of(l: Layout) -> [Place; 7]
     ensures { λ r. ⌜ r ≡ placesOf l ⌝ }
 {
     [
-        Place { at: l.configurations, size: CONFIGURATIONS },
-        Place { at: l.statuses, size: STATUSES },
-        Place { at: l.coefficients, size: COEFFICIENTS },
-        Place { at: l.frame_counter, size: FRAME_COUNTER },
-        Place { at: l.mixer_configuration, size: MIXER_CONFIGURATION },
-        Place { at: l.final_samples, size: FINAL_SAMPLES },
-        Place { at: l.intermediate_samples, size: INTERMEDIATE_SAMPLES },
+        Place {
+            at: l.configurations,
+            size: CONFIGURATIONS,
+        },
+        Place {
+            at: l.statuses,
+            size: STATUSES,
+        },
+        Place {
+            at: l.coefficients,
+            size: COEFFICIENTS,
+        },
+        Place {
+            at: l.frame_counter,
+            size: FRAME_COUNTER,
+        },
+        Place {
+            at: l.mixer_configuration,
+            size: MIXER_CONFIGURATION,
+        },
+        Place {
+            at: l.final_samples,
+            size: FINAL_SAMPLES,
+        },
+        Place {
+            at: l.intermediate_samples,
+            size: INTERMEDIATE_SAMPLES,
+        },
     ]
 }
 
