@@ -1,11 +1,12 @@
--- Numbers 1, 2 and 3 of document 01's table in words of bytes and lengths: what each sentence says, and that each number is given exactly if its
--- sentence holds and none of a lower number does. Assumes nothing: these are definitions; `exactly` of proofs/Places.antt proves the statement.
+-- Numbers 1, 2 and 3 of document 01's table in words of bytes and lengths: what each sentence says, and that each number is given exactly
+-- if its sentence holds and none of a lower number does. Assumes nothing: these are definitions. proofs/Places.antt proves `Exactly` (by
+-- `exactly`), and that an accepted layout is `Sound` (by `accepted`).
 use mathlib.Core.Path.{_≡_}
 use mathlib.Core.Logic.{_⊎_, _↔_}
 use Prim.Native.Nat.{ℕ, _≤_, _<_}
 use Rattle.memory.specs.declared.layout.Layout.{Layout}
 use Rattle.memory.specs.declared.layout.Place.{Place}
-use Rattle.memory.specs.Places.{placeAt, end, regionMost, layoutNumber}
+use Rattle.memory.specs.Places.{placeAt, end, layoutNumber}
 
 -- byte k belongs to a place
 abbrev pub Holds : Place → ℕ → Type 0
@@ -13,7 +14,7 @@ Holds p k = (p .at ≤ k) × (k < end p)
 
 -- "region lengths differ or exceed 65,536"
 abbrev pub LengthsWrong : ℕ → ℕ → Type 0
-LengthsWrong first second = (first ≡ second → ⊥) ⊎ ((regionMost < first) ⊎ (regionMost < second))
+LengthsWrong first second = (first ≡ second → ⊥) ⊎ ((65536 < first) ⊎ (65536 < second))
 
 -- "a place ends past the region": one of the seven has a byte that is not among the region's `first`
 abbrev pub EndsPast : ℕ → Layout → Type 0
@@ -33,7 +34,7 @@ pub record Exactly (first second : ℕ) (l : Layout) : Type 0 where
 -- What none of the three means for a layout that is accepted.
 pub record Sound (first second : ℕ) (l : Layout) : Type 0 where
   pub same : first ≡ second
-  pub small : first ≤ regionMost
+  pub small : first ≤ 65536
   -- each of the seven places ends within the region
   pub within : (i : ℕ) → i < 7 → end (placeAt l i) ≤ first
   -- and no byte belongs to two of them

@@ -1,12 +1,13 @@
--- The fields of the structures in a region, as tables: in order, each with its name and its size in bytes. Offsets are computed from the sizes.
--- Assumes nothing: these are definitions.
+-- The fields of the structures in a region, as tables: in order, each with its name and its size in bytes. Offsets are computed from the
+-- sizes. The names of what the source does not read are recalled from public descriptions (docs/DIFFERENCES.md). Assumes nothing: these are
+-- definitions.
 use Prim.Native.Nat.{ℕ, _+_, _*_}
 use Prim.Native.String.{String}
 use mathlib.Core.Bool.{Bool, true, false, _||_, cond}
 use mathlib.Core.List.{List, [], _∷_}
 use lib.Text.{eqt}
 
--- a field with its name; a gap, which is a field of the public descriptions that the source does not read; or bytes that have no name
+-- a field with its name; a gap, which is a field that the source does not read; or bytes that have no name
 pub data Entry : Type 0 where
   field : String → ℕ → Entry
   gap : String → ℕ → Entry
@@ -34,29 +35,29 @@ abbrev pub has : List Entry → String → Bool
 has [] name = false
 has (e ∷ es) name = isField name e || has es name
 
--- a number where a name is known, and where it is not no number at all: a misspelt name is refused wherever it is used
+-- A number where a name is known; where it is not, something that is no number. So a misspelt name is refused wherever a number is asked for.
 abbrev pub Known : Bool → Type 0
 Known true = ℕ
 Known false = Unit {0}
 
-abbrev pub known : (b : Bool) → ℕ → Known b
+abbrev known : (b : Bool) → ℕ → Known b
 known true n = n
 known false n = tt
 
--- the bytes before the field of a name, and the bytes of the field
-abbrev pub before : List Entry → String → ℕ
+-- how many bytes stand before the field of a name
+abbrev before : List Entry → String → ℕ
 before [] name = 0
 before (e ∷ es) name = cond (isField name e) 0 (size e + before es name)
 
-abbrev pub taken : List Entry → String → ℕ
+-- how many bytes the field of a name takes
+abbrev taken : List Entry → String → ℕ
 taken [] name = 0
 taken (e ∷ es) name = cond (isField name e) (size e) (taken es name)
 
--- where the field of a name begins in its structure
+-- both, of a name that stands in the table
 abbrev pub offsetOf : (es : List Entry) (name : String) → Known (has es name)
 offsetOf es name = known (has es name) (before es name)
 
--- how many bytes the field of a name takes
 abbrev pub sizeOf : (es : List Entry) (name : String) → Known (has es name)
 sizeOf es name = known (has es name) (taken es name)
 
@@ -73,8 +74,8 @@ slot =
     ∷ padding 2
     ∷ []
 
--- A voice's configuration: 12 gains, b0 and a1 of the simple filter, a2, a1, b2, b1 and b0 of the biquad, 4 slots; play position, address and
--- length are dsp32.
+-- A voice's configuration: 12 gains, b0 and a1 of the simple filter, a2, a1, b2, b1 and b0 of the biquad, 4 slots; play position, address
+-- and length are dsp32.
 abbrev pub configuration : List Entry
 configuration =
     field "DIRTY" 4

@@ -1,4 +1,5 @@
--- The places of a region, and the numbers 1, 2 and 3 that a call gives back where they are not right. Assumes nothing: these are definitions.
+-- The places of a region, and the numbers 1, 2 and 3 that a call gives back where they are not right. Assumes nothing: these are
+-- definitions.
 use Prim.Native.Nat.{ℕ, _+_}
 use mathlib.Core.Bool.{Bool, true, not, _&&_, _||_}
 use mathlib.Core.List.{List, [], _∷_}
@@ -56,8 +57,8 @@ apart (p ∷ ps) = apartFrom p ps && apart ps
 abbrev pub regionMost : ℕ
 regionMost = 65536
 
--- The rules for regions of `first` and `second` bytes. 1: "region lengths differ or exceed 65,536"; 2: "a place ends past the region"; 3: "two
--- places share a byte".
+-- The rules for regions of `first` and `second` bytes. 1: "region lengths differ or exceed 65,536"; 2: "a place ends past the region";
+-- 3: "two places share a byte".
 abbrev pub layoutRules : ℕ → ℕ → Layout → List Rule
 layoutRules first second l =
     rule (not (eqb first second) || ltb regionMost first) 1

@@ -8,7 +8,8 @@ use mathlib.Core.List.{List, [], _∷_, map}
 use lib.Text.{eqt}
 use Rattle.memory.specs.declared.layout.Layout.{Layout}
 use Rattle.memory.specs.declared.layout.Place.{Place}
-use Rattle.memory.specs.Fields.{Entry, field, gap, padding, total, offsetOf, sizeOf, configuration, slot, status, mixerConfiguration, gainAt, slotAt}
+use Rattle.memory.specs.Fields.{Entry, field, gap, padding, total, offsetOf, sizeOf}
+use Rattle.memory.specs.Fields.{configuration, slot, status, mixerConfiguration, gainAt, slotAt}
 use Rattle.memory.specs.Places.{placesOf}
 
 -- the names of a table's fields and gaps
@@ -28,15 +29,15 @@ abbrev pub once : List String → Bool
 once [] = true
 once (name ∷ names) = not (stands name names) && once names
 
--- so many bytes at an offset of a configuration lie in one of its fields, which begins at `from` and takes `size`
+-- the `count` bytes at an offset lie in the field of `size` bytes that begins at `from`
 abbrev pub Within : ℕ → ℕ → ℕ → ℕ → Type 0
 Within at count from size = (from ≤ at) × (at + count ≤ from + size)
 
 pub record Tables : Type 0 where
-  -- configuration, slot, status and mixer configuration are as long as document 01 and the source have them
+  -- the fields of a configuration, a slot, a status and the mixer's configuration add up to their sizes
   pub totals : total configuration ∷ total slot ∷ total status ∷ total mixerConfiguration ∷ [] ≡ 192 ∷ 20 ∷ 12 ∷ 44 ∷ []
-  -- The places of a region hold them: 24 voices; 16 coefficients of 2 bytes; a counter of 2; 160 samples for 2 ears of 2 bytes; 160 samples of 4
-  -- bytes for 4 channels of 2 mixes.
+  -- The places of a region hold them: 24 voices; 16 coefficients of 2 bytes; a counter of 2; 160 samples for 2 ears of 2 bytes; 160 samples
+  -- of 4 bytes for 4 channels of 2 mixes.
   pub places :
       (l : Layout)
       → map (λ (p : Place). p .size) (placesOf l)
