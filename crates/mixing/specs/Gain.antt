@@ -2,17 +2,18 @@
 -- Assumes nothing: these are definitions.
 use Prim.Native.Nat.{ℕ}
 use lib.IntN.{ℤ, pos}
-use lib.Ieee.{Float, binary32, add, sub, mul, div}
+use lib.Ieee.{Float}
 use Rattle.numbers.specs.Casts.{cast-i32, single}
+use Rattle.numbers.specs.Single.{_⊕_, _⊖_, _⊗_, _⊘_}
 
 -- "gain times sample"
 unfoldable pub at-gain : Float → ℤ → ℤ
-at-gain gain sample = cast-i32 (mul binary32 gain (single sample))
+at-gain gain sample = cast-i32 (gain ⊗ single sample)
 
 -- "i/159", which is formed first, as the source does
 abbrev pub progress : ℕ → Float
-progress i = div binary32 (single (pos i)) (single (pos 159))
+progress i = single (pos i) ⊘ single (pos 159)
 
 -- "(from + (to - from) times i/159) times sample, i from 0 in the frame"
 unfoldable pub fading : Float → Float → ℕ → ℤ → ℤ
-fading from to i sample = cast-i32 (mul binary32 (add binary32 from (mul binary32 (sub binary32 to from) (progress i))) (single sample))
+fading from to i sample = cast-i32 ((from ⊕ (to ⊖ from) ⊗ progress i) ⊗ single sample)

@@ -1,2 +1,3 @@
 pub mod Gain
 pub mod Interpolate
+pub mod Overflow

@@ -1,6 +1,8 @@
 pub mod Bits
 pub mod Casts
+pub mod Double
 pub mod Literals
+pub mod Single
 pub mod Tests
 pub mod Within
 pub mod Wrap
