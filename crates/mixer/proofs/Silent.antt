@@ -20,7 +20,7 @@ use Rattle.numbers.specs.Literals.{+0}
 use Rattle.numbers.specs.Wrap.{clamp16}
 use Rattle.numbers.proofs.Reach.{Reach, zero-reach, single-reach, mul-reach, add-reach, round-reach, cast-reach, only-zero}
 use Rattle.mixer.specs.Mixes.{valueAt}
-use Rattle.mixer.specs.Downmix.{at-volume, mono, side, mono-part, stereo-part, added, partAt, downmixed}
+use Rattle.mixer.specs.Downmix.{at-volume, mono, side, mono-part, stereo-part, added, partAt, mixedIn}
 use Rattle.mixer.specs.declared.state.Output.{Output}
 use Rattle.mixer.specs.declared.state.Output.the-variants.{Mono, Stereo}
 
@@ -83,8 +83,8 @@ tabulated : (l : List ℤ) (f : ℕ → ℤ) → ((k : ℕ) → k < length l →
 tabulated [] f h = refl
 tabulated (x ∷ l) f h = λ i. h 0 (zero-lt-suc (length l)) i ∷ tabulated l (λ k. f (suc k)) (λ k b. h (suc k) (suc-le-suc-iff .1 b)) i
 
-pub silent : (o : Output) (v : Float) (mix frame : List ℤ) → eq v +0 ≡ true → length frame ≡ 320 → ((k : ℕ) → mag (getD frame k (pos 0)) < 32768) → ((k : ℕ) → mag (getD mix k (pos 0)) < 2147483648) → frame ≡ downmixed o v mix frame
-unfolding downmixed
+pub silent : (o : Output) (v : Float) (mix frame : List ℤ) → eq v +0 ≡ true → length frame ≡ 320 → ((k : ℕ) → mag (getD frame k (pos 0)) < 32768) → ((k : ℕ) → mag (getD mix k (pos 0)) < 2147483648) → frame ≡ mixedIn o v mix frame
+unfolding mixedIn
 silent o v mix frame z long f m =
     sym (subst (λ (n : ℕ). tabulate (λ k. added (getD frame k (pos 0)) (partAt o v mix k)) n ≡ frame) long
     (tabulated frame (λ k. added (getD frame k (pos 0)) (partAt o v mix k)) (λ k h. ap (added (getD frame k (pos 0))) (part-silent o v mix (zero-reach v z) m k) ∙ added-zero (getD frame k (pos 0)) (f k))))

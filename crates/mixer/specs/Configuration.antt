@@ -1,15 +1,14 @@
 -- The mixer's configuration: what its 44 bytes say of the state. Assumes nothing: these are definitions.
 use Prim.Native.Nat.{ℕ, _+_}
-use mathlib.Core.Bool.{Bool, false, not, cond}
+use mathlib.Core.Bool.{Bool, not, cond}
 use mathlib.Core.List.{List, [], _∷_}
 use lib.Dec.{eqb}
 use lib.Ieee.{Float}
-use lib.ListN.{getD}
-use Rattle.numbers.specs.Literals.{+0}
 use Rattle.numbers.specs.Bits.{gain}
 use Rattle.memory.specs.Little.{at16, at32}
 use Rattle.memory.specs.Flags.{flagged}
 use Rattle.memory.specs.Fields.{offsetOf, mixerConfiguration}
+use Rattle.mixer.specs.State.{volumeOf, auxOn}
 use Rattle.mixer.specs.declared.state.Mixer.{Mixer}
 use Rattle.mixer.specs.declared.state.Output.{Output}
 use Rattle.mixer.specs.declared.state.Output.the-variants.{Mono, Stereo}
@@ -25,13 +24,13 @@ outputOf bytes = cond (eqb (at16 bytes (offsetOf mixerConfiguration "OUTPUT_FORM
 module _ (bytes : List ℕ) (m : Mixer) where
   -- volume k, read at a place where its bit of the dirty word is set, else kept; as of a gain, one that is not finite is 0.0
   abbrev volumeBy : ℕ → ℕ → ℕ → Float
-  volumeBy k bit at = cond (flagged (dirtyIn bytes) bit) (gain (at32 bytes at)) (getD (m .volume) k +0)
+  volumeBy k bit at = cond (flagged (dirtyIn bytes) bit) (gain (at32 bytes at)) (volumeOf m k)
 
   -- the switch of aux bus k likewise: any word but 0 is on
   abbrev auxBy : ℕ → ℕ → ℕ → Bool
-  auxBy k bit at = cond (flagged (dirtyIn bytes) bit) (not (eqb (at16 bytes at) 0)) (getD (m .aux) k false)
+  auxBy k bit at = cond (flagged (dirtyIn bytes) bit) (not (eqb (at16 bytes at) 0)) (auxOn m k)
 
-  -- the state that the bytes leave: "a dirty word of zero does nothing", else each field whose bit is set is read
+  -- the state that the bytes leave: "A zero dirty word does nothing"; of any other, each field whose bit is set is read
   unfoldable pub configured : Mixer
   configured =
       cond (eqb (dirtyIn bytes) 0) m

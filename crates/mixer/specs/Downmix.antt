@@ -4,25 +4,29 @@ use Prim.Native.Nat.{ℕ, _+_, _/_, _%_}
 use mathlib.Core.List.{List}
 use lib.IntN.{ℤ, pos, _+ℤ_}
 use lib.ListN.{getD}
-use lib.Ieee.{Float, binary32, add, mul, div}
+use lib.Ieee.{Float}
 use Rattle.numbers.specs.Casts.{cast-i32, single}
+use Rattle.numbers.specs.Single.{_⊕_, _⊗_, _⊘_}
 use Rattle.numbers.specs.Wrap.{clamp16}
 use Rattle.lists.specs.Tabulate.{tabulate}
+use Rattle.mixer.specs.Sizes.{frameSize}
+use Rattle.mixer.specs.State.{volumeOf}
 use Rattle.mixer.specs.Mixes.{valueAt}
+use Rattle.mixer.specs.declared.state.Mixer.{Mixer}
 use Rattle.mixer.specs.declared.state.Output.{Output}
 use Rattle.mixer.specs.declared.state.Output.the-variants.{Mono, Stereo}
 
 -- a mix value at its mix's volume
 abbrev pub at-volume : Float → ℤ → Float
-at-volume volume value = mul binary32 (single value) volume
+at-volume volume value = single value ⊗ volume
 
 -- what a mono output has of a mix: half the sum of its channels, taken from the left
 abbrev pub mono : Float → ℤ → ℤ → ℤ → ℤ → Float
-mono v a b c d = div binary32 (add binary32 (add binary32 (add binary32 (at-volume v a) (at-volume v b)) (at-volume v c)) (at-volume v d)) (single (pos 2))
+mono v a b c d = (at-volume v a ⊕ at-volume v b ⊕ at-volume v c ⊕ at-volume v d) ⊘ single (pos 2)
 
 -- what one side of a stereo output has of it: the sum of that side's channels
 abbrev pub side : Float → ℤ → ℤ → Float
-side v a c = add binary32 (at-volume v a) (at-volume v c)
+side v a c = at-volume v a ⊕ at-volume v c
 
 -- either as a part of the output's value, clamped to 16 bits by itself
 unfoldable pub mono-part : Float → ℤ → ℤ → ℤ → ℤ → ℤ
@@ -44,5 +48,9 @@ partAt Mono volume mix k =
 partAt Stereo volume mix k = stereo-part volume (valueAt mix (k % 2) (k / 2)) (valueAt mix (k % 2 + 2) (k / 2))
 
 -- a frame with a mix's part added to each value
-unfoldable pub downmixed : Output → Float → List ℤ → List ℤ → List ℤ
-downmixed output volume mix frame = tabulate (λ k. added (getD frame k (pos 0)) (partAt output volume mix k)) 320
+unfoldable pub mixedIn : Output → Float → List ℤ → List ℤ → List ℤ
+mixedIn output volume mix frame = tabulate (λ k. added (getD frame k (pos 0)) (partAt output volume mix k)) frameSize
+
+-- mix k is added at the state's volume k, by the state's output kind
+abbrev pub downmixed : Mixer → ℕ → List ℤ → List ℤ → List ℤ
+downmixed state k mix frame = mixedIn (state .output) (volumeOf state k) mix frame

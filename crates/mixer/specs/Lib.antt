@@ -1,4 +1,6 @@
 pub mod Configuration
 pub mod Downmix
 pub mod Mixes
+pub mod Sizes
+pub mod State
 pub mod Tick

@@ -7,16 +7,17 @@ use Rattle.lists.specs.Splice.{part}
 use Rattle.lists.specs.Tabulate.{tabulate}
 use Rattle.numbers.specs.Wrap.{modZ, signed32}
 use Rattle.memory.specs.Little.{at32, bytes16, bytes32}
+use Rattle.mixer.specs.Sizes.{frameSamples, mixSize}
 
--- mix k of the three: 4 channels of 160 values
+-- mix k of the three
 abbrev pub mixOf : ℕ → List ℤ → List ℤ
-mixOf k mixes = part (k * 640) 640 mixes
+mixOf k mixes = part (k * mixSize) mixSize mixes
 
 -- the value of a sample in a channel of a mix
 abbrev pub valueAt : List ℤ → ℕ → ℕ → ℤ
-valueAt mix channel sample = getD mix (channel * 160 + sample) (pos 0)
+valueAt mix channel sample = getD mix (channel * frameSamples + sample) (pos 0)
 
--- a mix as bytes: each value's 32 bits, little-endian
+-- a mix as bytes: each value's 32 bits, "little-endian"
 abbrev pub wordOf : ℤ → List ℕ
 wordOf value = bytes32 (modZ value 4294967296)
 
@@ -25,9 +26,9 @@ wordBytes mix = flatMap wordOf mix
 
 -- the mix that bytes hold
 unfoldable pub wordsIn : List ℕ → List ℤ
-wordsIn bytes = tabulate (λ i. signed32 (at32 bytes (i * 4))) 640
+wordsIn bytes = tabulate (λ i. signed32 (at32 bytes (i * 4))) mixSize
 
--- final samples as bytes: "little-endian pairs"
+-- final samples as bytes: each value's 16 bits, "little-endian"
 abbrev pub halfOf : ℤ → List ℕ
 halfOf value = bytes16 (modZ value 65536)
 

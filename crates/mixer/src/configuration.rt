@@ -7,6 +7,7 @@ ghost use lib.ListN.{length};
 ghost use Rattle.memory.specs.Little.{at16, at32};
 ghost use Rattle.memory.specs.Flags.{flagged};
 ghost use Rattle.numbers.specs.Bits.{gain};
+ghost use Rattle.mixer.specs.Sizes.{configurationBytes};
 ghost use Rattle.mixer.specs.Configuration.{outputOf, configured};
 use crate::state::Mixer;
 use crate::state::Output;
@@ -48,8 +49,8 @@ fn switch_at(bytes: &[u8], at: usize, flags: u32, bit: u32, old: bool) -> bool
 
 // The output kind: read where its bit is set.
 fn output_at(bytes: &[u8], flags: u32, old: Output) -> Output
-    requires { ⌜ length (now bytes) ≡ 44 ⌝ }
-    ensures { λ r. ⌜ r ≡ cond (flagged flags 67108864) (outputOf (now (bytes .entry))) old ⌝ }
+    requires { ⌜ length (now bytes) ≡ configurationBytes ⌝ }
+    ensures { λ r. ⌜ r ≡ cond (flagged flags 0x400_0000) (outputOf (now (bytes .entry))) old ⌝ }
 {
     if flagged(flags, OUTPUT_FORMAT) {
         if read16(bytes, config::OUTPUT_FORMAT) == 0 {
@@ -62,7 +63,7 @@ fn output_at(bytes: &[u8], flags: u32, old: Output) -> Output
 
 // The state as the configuration's bytes change it.
 pub fn parse_config(mixer: Mixer, bytes: &[u8]) -> Mixer
-    requires { ⌜ length (now bytes) ≡ 44 ⌝ }
+    requires { ⌜ length (now bytes) ≡ configurationBytes ⌝ }
     ensures { λ r. ⌜ r ≡ configured (now (bytes .entry)) mixer ⌝ }
 {
     let flags = read32(bytes, config::DIRTY);

@@ -1,4 +1,6 @@
 // The final samples: the part of each mix, clamped, is added in turn and clamped again.
+use crate::sizes::FRAME_SAMPLES;
+use crate::state::Mixer;
 use crate::state::Output;
 use numbers::casts::cast_clamped;
 use numbers::casts::single_of_i32;
@@ -8,7 +10,15 @@ ghost use Prim.Native.Nat.{ℕ, _+_, _*_, _<_};
 ghost use lib.IntN.{pos};
 ghost use lib.ListN.{length, getD};
 ghost use lib.Signed.{mag};
-ghost use Rattle.mixer.specs.Downmix.{at-volume, mono-part, stereo-part, added, partAt, downmixed};
+ghost use Rattle.mixer.specs.Sizes.{frameSamples, frameSize, mixSize};
+ghost use Rattle.mixer.specs.Downmix.{at-volume, mono-part, stereo-part, added, partAt, mixedIn, downmixed};
+
+// Where channels 1, 2 and 3 of a mix begin.
+const CHANNEL_1: usize = FRAME_SAMPLES;
+
+const CHANNEL_2: usize = 2 * FRAME_SAMPLES;
+
+const CHANNEL_3: usize = 3 * FRAME_SAMPLES;
 
 // A mix value at its mix's volume.
 fn at_volume(volume: f32, value: i32) -> f32
@@ -49,13 +59,14 @@ struct Parts {
 }
 
 fn parts_of(output: Output, volume: f32, mix: &[i32], i: usize) -> Parts
-    requires { ⌜ (length (now mix) ≡ 640) × (i < 160) ⌝ }
-    ensures { λ r. ⌜ (r .left ≡ partAt output volume (now (mix .entry)) (i * 2)) × (r .right ≡ partAt output volume (now (mix .entry)) (i * 2 + 1)) ⌝ }
+    requires { ⌜ (length (now mix) ≡ mixSize) × (i < frameSamples) ⌝ }
+    ensures left { λ r. ⌜ r .left ≡ partAt output volume (now (mix .entry)) (i * 2) ⌝ }
+    ensures right { λ r. ⌜ r .right ≡ partAt output volume (now (mix .entry)) (i * 2 + 1) ⌝ }
 {
     let a = mix[i];
-    let b = mix[160 + i];
-    let c = mix[320 + i];
-    let d = mix[480 + i];
+    let b = mix[CHANNEL_1 + i];
+    let c = mix[CHANNEL_2 + i];
+    let d = mix[CHANNEL_3 + i];
     match output {
         Output::Mono => {
             let part = mono_part(volume, a, b, c, d);
@@ -72,11 +83,11 @@ fn parts_of(output: Output, volume: f32, mix: &[i32], i: usize) -> Parts
 }
 
 fn mix_in(frame: &mut [i16], mix: &[i32], volume: f32, output: Output)
-    requires { ⌜ (length (now frame) ≡ 320) × (length (now mix) ≡ 640) ⌝ }
-    ensures { λ _. ⌜ now (frame .exit) ≡ downmixed output volume (now (mix .entry)) (now (frame .entry)) ⌝ }
+    requires { ⌜ (length (now frame) ≡ frameSize) × (length (now mix) ≡ mixSize) ⌝ }
+    ensures { λ _. ⌜ now (frame .exit) ≡ mixedIn output volume (now (mix .entry)) (now (frame .entry)) ⌝ }
 {
     let mut i = 0;
-    while i < 160 {
+    while i < FRAME_SAMPLES {
         let s = parts_of(output, volume, mix, i);
         let k = i * 2;
         let left = added(frame[k], s.left);
@@ -108,11 +119,14 @@ fn ranged32(values: &[i32])
     }
 }
 
-// Adds a mix to the frame at a volume. At 0.0 it adds nothing.
-pub fn downmix(frame: &mut [i16], mix: &[i32], volume: f32, output: Output)
-    requires { ⌜ (length (now frame) ≡ 320) × (length (now mix) ≡ 640) ⌝ }
-    ensures { λ _. ⌜ now (frame .exit) ≡ downmixed output volume (now (mix .entry)) (now (frame .entry)) ⌝ }
+// Adds mix k to the frame, at its volume. At 0.0 it adds nothing.
+pub fn downmix(frame: &mut [i16], mix: &[i32], state: Mixer, k: usize)
+    requires { ⌜ (length (now frame) ≡ frameSize) × ((length (now mix) ≡ mixSize) × (k < 3)) ⌝ }
+    ensures { λ _. ⌜ now (frame .exit) ≡ downmixed state k (now (mix .entry)) (now (frame .entry)) ⌝ }
 {
+    let volumes = state.volume;
+    let volume = volumes[k];
+    let output = state.output;
     if volume == 0.0 {
         ranged16(frame);
         ranged32(mix);

@@ -2,5 +2,6 @@
 pub mod configuration;
 pub mod downmix;
 pub mod mixes;
+pub mod sizes;
 pub mod state;
 pub mod tick;

@@ -2,9 +2,14 @@
 use crate::configuration::parse_config;
 use crate::downmix::downmix;
 use crate::mixes;
+use crate::sizes::AUX_MIX_SIZE;
+use crate::sizes::FRAME_SIZE;
+use crate::sizes::MIX_SIZE;
+use crate::sizes::MIXES_SIZE;
 use crate::state::Mixer;
 use memory::layout::Layout;
 use memory::little;
+use memory::mixer_config::CONFIG_SIZE;
 ghost use mathlib.Core.Path.{_≡_};
 ghost use mathlib.Core.Bool.{cond};
 ghost use Prim.Native.Nat.{_+_, _≤_};
@@ -12,52 +17,56 @@ ghost use lib.Dec.{eqb};
 ghost use lib.ListN.{length, replicate};
 ghost use Rattle.lists.specs.Splice.{splice};
 ghost use Rattle.memory.specs.Little.{at32};
-ghost use Rattle.mixer.specs.Tick.{Roomy, readAfter, frameOf, outOf, writeAfter, stateOf, served, refused, mixed, firstAfter, secondAfter};
+ghost use Rattle.mixer.specs.Sizes.{frameSize, mixesSize, configurationBytes, intermediateBytes};
+ghost use Rattle.mixer.specs.Tick.{Roomy, readAfter, frameOf, outOf, writeAfter, stateOf, served, refusal, ticked};
+
+// Where mixes 1 and 2 of the three begin.
+const MIX_1: usize = MIX_SIZE;
+
+const MIX_2: usize = 2 * MIX_SIZE;
 
 // What a call gives back: 0, or the number of its refusal; the state; and 160 pairs of final samples.
 pub struct Mixed {
     pub number: u8,
     pub mixer: Mixer,
-    pub frame: [i16; 320],
+    pub frame: [i16; FRAME_SIZE],
 }
 
 // The frame that a state makes of the mixes given and those in the region that is read.
-fn frame_of(l: Layout, state: Mixer, read: &[u8], given: &[i32]) -> [i16; 320]
-    requires { ⌜ (l .«intermediate_samples» + 5120 ≤ length (now read)) × (length (now given) ≡ 1920) ⌝ }
+fn frame_of(l: Layout, state: Mixer, read: &[u8], given: &[i32]) -> [i16; FRAME_SIZE]
+    requires { ⌜ (l .«intermediate_samples» + intermediateBytes ≤ length (now read)) × (length (now given) ≡ mixesSize) ⌝ }
     ensures { λ r. ⌜ r ≡ frameOf l state (now (read .entry)) (now (given .entry)) ⌝ }
 {
-    let volume = state.volume;
     let aux = state.aux;
-    let output = state.output;
     let start = l.intermediate_samples as usize;
-    let middle = start + 2560;
-    let end = middle + 2560;
-    let mut first = [0i32; 640];
-    mixes::hear(aux[0], &read[start..middle], &given[640..1280], &mut first);
-    let mut second = [0i32; 640];
-    mixes::hear(aux[1], &read[middle..end], &given[1280..1920], &mut second);
-    let mut frame = [0i16; 320];
-    downmix(&mut frame, &given[0..640], volume[0], output);
-    downmix(&mut frame, &first, volume[1], output);
-    downmix(&mut frame, &second, volume[2], output);
+    let middle = start + AUX_MIX_SIZE;
+    let end = middle + AUX_MIX_SIZE;
+    let mut first = [0i32; MIX_SIZE];
+    mixes::hear(aux[0], &read[start..middle], &given[MIX_1..MIX_2], &mut first);
+    let mut second = [0i32; MIX_SIZE];
+    mixes::hear(aux[1], &read[middle..end], &given[MIX_2..MIXES_SIZE], &mut second);
+    let mut frame = [0i16; FRAME_SIZE];
+    downmix(&mut frame, &given[0..MIX_SIZE], state, 0);
+    downmix(&mut frame, &first, state, 1);
+    downmix(&mut frame, &second, state, 2);
     frame
 }
 
 // Writes the mixes that go to the title, and the final samples.
 fn write_out(l: Layout, state: Mixer, given: &[i32], frame: &[i16], write: &mut [u8])
-    requires { ⌜ Roomy l (length (now write)) × ((length (now given) ≡ 1920) × (length (now frame) ≡ 320)) ⌝ }
+    requires { ⌜ Roomy l (length (now write)) × ((length (now given) ≡ mixesSize) × (length (now frame) ≡ frameSize)) ⌝ }
     ensures { λ _. ⌜ now (write .exit) ≡ outOf l state (now (given .entry)) (now (frame .entry)) (now (write .entry)) ⌝ }
 {
     let aux = state.aux;
     let start = l.intermediate_samples as usize;
-    mixes::send(aux[0], &given[640..1280], write, start);
-    mixes::send(aux[1], &given[1280..1920], write, start + 2560);
+    mixes::send(aux[0], &given[MIX_1..MIX_2], write, start);
+    mixes::send(aux[1], &given[MIX_2..MIXES_SIZE], write, start + AUX_MIX_SIZE);
     mixes::put_frame(frame, write, l.final_samples as usize);
 }
 
 // Clears the dirty word of the configuration at a place, where it is not 0.
 fn clear_dirty(read: &mut [u8], at: usize)
-    requires { ⌜ at + 44 ≤ length (now read) ⌝ }
+    requires { ⌜ at + configurationBytes ≤ length (now read) ⌝ }
     ensures { λ _. ⌜ now (read .exit) ≡ cond (eqb (at32 (now (read .entry)) at) 0) (now (read .entry)) (splice (now (read .entry)) at (replicate 4 0)) ⌝ }
 {
     if little::read32(read, at) != 0 {
@@ -65,15 +74,15 @@ fn clear_dirty(read: &mut [u8], at: usize)
     }
 }
 
-// A call that is not refused.
+// A call that is not refused, by the region that is read and the other one.
 fn mix(l: Layout, mixer: Mixer, read: &mut [u8], write: &mut [u8], given: &[i32]) -> Mixed
-    requires { ⌜ Roomy l (length (now read)) × ((length (now write) ≡ length (now read)) × (length (now given) ≡ 1920)) ⌝ }
+    requires { ⌜ Roomy l (length (now read)) × ((length (now write) ≡ length (now read)) × (length (now given) ≡ mixesSize)) ⌝ }
     ensures answer { λ r. ⌜ r ≡ served l mixer (now (given .entry)) (now (read .entry)) ⌝ }
     ensures read { λ _. ⌜ now (read .exit) ≡ readAfter l (now (read .entry)) ⌝ }
     ensures written { λ _. ⌜ now (write .exit) ≡ writeAfter l (stateOf l mixer (now (read .entry))) (now (read .entry)) (now (given .entry)) (now (write .entry)) ⌝ }
 {
     let at = l.mixer_configuration as usize;
-    let end = at + 44;
+    let end = at + CONFIG_SIZE;
     let state = parse_config(mixer, &read[at..end]);
     let frame = frame_of(l, state, read, given);
     write_out(l, state, given, &frame, write);
@@ -87,39 +96,39 @@ fn mix(l: Layout, mixer: Mixer, read: &mut [u8], write: &mut [u8], given: &[i32]
 
 // What a refused call gives back.
 fn refuse(number: u8, mixer: Mixer) -> Mixed
-    ensures { λ r. ⌜ r ≡ refused mixer number ⌝ }
+    ensures { λ r. ⌜ r ≡ refusal mixer number ⌝ }
 {
     Mixed {
         number,
         mixer,
-        frame: [0i16; 320],
+        frame: [0i16; FRAME_SIZE],
     }
 }
 
-// Mixes one frame: `read` is the region that the title wrote last.
+// Mixes one frame: `which` is the number of the region that the title wrote last, which is read.
 pub fn tick(
     mixer: Mixer,
     l: Layout,
-    read: u32,
+    which: u32,
     first: &mut [u8],
     second: &mut [u8],
     given: &[i32],
 ) -> Mixed
-    ensures answer { λ r. ⌜ r ≡ mixed l mixer (now (given .entry)) read (now (first .entry)) (now (second .entry)) ⌝ }
-    ensures first { λ _. ⌜ now (first .exit) ≡ firstAfter l mixer (now (given .entry)) read (now (first .entry)) (now (second .entry)) ⌝ }
-    ensures second { λ _. ⌜ now (second .exit) ≡ secondAfter l mixer (now (given .entry)) read (now (first .entry)) (now (second .entry)) ⌝ }
+    ensures answer { λ r. ⌜ r ≡ ticked l mixer (now (given .entry)) which (now (first .entry)) (now (second .entry)) .answer ⌝ }
+    ensures first { λ _. ⌜ now (first .exit) ≡ ticked l mixer (now (given .entry)) which (now (first .entry)) (now (second .entry)) .first ⌝ }
+    ensures second { λ _. ⌜ now (second .exit) ≡ ticked l mixer (now (given .entry)) which (now (first .entry)) (now (second .entry)) .second ⌝ }
 {
     let number = memory::layout::layout_number(first.len(), second.len(), l);
     if number != 0 {
         return refuse(number, mixer);
     }
-    if given.len() != 1920 {
+    if given.len() != MIXES_SIZE {
         return refuse(6, mixer);
     }
-    if read > 1 {
+    if which > 1 {
         return refuse(8, mixer);
     }
-    if read == 0 {
+    if which == 0 {
         return mix(l, mixer, first, second, given);
     }
     mix(l, mixer, second, first, given)

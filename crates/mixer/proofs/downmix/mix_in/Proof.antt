@@ -13,41 +13,41 @@ use borrow.Author.Needs.{needs}
 use Rattle.lists.proofs.Fill.{Filling, filling-none, filling-more, filling-next, filling-all}
 use Rattle.lists.proofs.Tabulate.{length-tabulate, getD-tabulate}
 use Rattle.numbers.proofs.Bounds.{result-read}
-use Rattle.mixer.specs.Downmix.{added, partAt, downmixed}
+use Rattle.mixer.specs.Downmix.{added, partAt, mixedIn}
 use Rattle.mixer.specs.declared.state.Output.{Output}
 use Rattle.mixer.proofs.downmix.mix_in.Statement.{statement}
 use Rattle.mixer.proofs.downmix.mix_in.Tie as tie
 
 module _ (o : Output) (v : Float) (mix old : List ℤ) (long : length old ≡ 320) where
-  goal-long : length (downmixed o v mix old) ≡ length old
-  unfolding downmixed
+  goal-long : length (mixedIn o v mix old) ≡ length old
+  unfolding mixedIn
   goal-long = length-tabulate (λ k. added (getD old k (pos 0)) (partAt o v mix k)) 320 ∙ sym long
 
-  goal-at : (k : ℕ) → k < 320 → getD (downmixed o v mix old) k (pos 0) ≡ added (getD old k (pos 0)) (partAt o v mix k)
-  unfolding downmixed
+  goal-at : (k : ℕ) → k < 320 → getD (mixedIn o v mix old) k (pos 0) ≡ added (getD old k (pos 0)) (partAt o v mix k)
+  unfolding mixedIn
   goal-at k h = getD-tabulate (λ k. added (getD old k (pos 0)) (partAt o v mix k)) 320 k (pos 0) h
 
   -- one value stored
-  store : (now : List ℤ) (k : ℕ) (x : ℤ) → k < 320 → Filling (downmixed o v mix old) old now k → x ≡ added (getD now k (pos 0)) (partAt o v mix k)
-      → Filling (downmixed o v mix old) old (set now k x) (k + 1)
+  store : (now : List ℤ) (k : ℕ) (x : ℤ) → k < 320 → Filling (mixedIn o v mix old) old now k → x ≡ added (getD now k (pos 0)) (partAt o v mix k)
+      → Filling (mixedIn o v mix old) old (set now k x) (k + 1)
   store now k x h f e =
-      filling-more (downmixed o v mix old) old now k x (pos 0) goal-long (omega arith) f
-      (e ∙ ap (λ (z : ℤ). added z (partAt o v mix k)) (filling-next (downmixed o v mix old) old now k (pos 0) goal-long f) ∙ sym (goal-at k h))
+      filling-more (mixedIn o v mix old) old now k x (pos 0) goal-long (omega arith) f
+      (e ∙ ap (λ (z : ℤ). added z (partAt o v mix k)) (filling-next (mixedIn o v mix old) old now k (pos 0) goal-long f) ∙ sym (goal-at k h))
 
   -- a turn stores a pair
-  turn : (now : List ℤ) (i : ℕ) (x y : ℤ) → i < 160 → Filling (downmixed o v mix old) old now (i * 2)
+  turn : (now : List ℤ) (i : ℕ) (x y : ℤ) → i < 160 → Filling (mixedIn o v mix old) old now (i * 2)
       → x ≡ added (getD now (i * 2) (pos 0)) (partAt o v mix (i * 2))
       → y ≡ added (getD (set now (i * 2) x) (i * 2 + 1) (pos 0)) (partAt o v mix (i * 2 + 1))
-      → Filling (downmixed o v mix old) old (set (set now (i * 2) x) (i * 2 + 1) y) ((i + 1) * 2)
+      → Filling (mixedIn o v mix old) old (set (set now (i * 2) x) (i * 2 + 1) y) ((i + 1) * 2)
   turn now i x y h f p q =
-      subst (λ (n : ℕ). Filling (downmixed o v mix old) old (set (set now (i * 2) x) (i * 2 + 1) y) n) two
+      subst (λ (n : ℕ). Filling (mixedIn o v mix old) old (set (set now (i * 2) x) (i * 2 + 1) y) n) two
       (store (set now (i * 2) x) (i * 2 + 1) y (omega arith) (store now (i * 2) x (omega arith) f p) q)
     where
       two : i * 2 + 1 + 1 ≡ (i + 1) * 2
       two = omega arith
 
 abbrev Inv-loop : tie.InvT-loop
-Inv-loop frame₀ mix volume output i₀ frame i = (i ≤ 160) × Filling (downmixed output volume mix frame₀) frame₀ frame (i * 2)
+Inv-loop frame₀ mix volume output i₀ frame i = (i ≤ 160) × Filling (mixedIn output volume mix frame₀) frame₀ frame (i * 2)
 
 abbrev μ-loop : tie.MeasureT-loop
 μ-loop frame₀ mix volume output i₀ frame i = 160 - i

@@ -1,17 +1,15 @@
 -- `mixer::tick::frame_of` meets its contract: the calls' equations, one put into the next. Assumes nothing.
-use mathlib.Core.Path.{_≡_, sym, ap, _∙_, subst}
-use mathlib.Core.Bool.{false, cond}
+use mathlib.Core.Path.{_≡_, ap, _∙_}
+use mathlib.Core.Bool.{cond}
 use mathlib.Core.List.{List}
-use Prim.Native.Nat.{ℕ, _+_, _<_}
-use lib.Dec.{lit<}
-use lib.Ieee.{nan}
-use lib.ListN.{length, take, drop, getD}
-use Rattle.lists.proofs.Walk.{getD-any}
+use Prim.Native.Nat.{ℕ, _+_}
+use lib.ListN.{take, drop}
 use Rattle.lists.proofs.Splice.{lent-is}
-use Rattle.numbers.specs.Literals.{+0}
+use Rattle.mixer.specs.Sizes.{auxBytes}
+use Rattle.mixer.specs.State.{auxOn}
 use Rattle.mixer.specs.Mixes.{mixOf, wordsIn}
 use Rattle.mixer.specs.Downmix.{downmixed}
-use Rattle.mixer.specs.Tick.{heard, silence}
+use Rattle.mixer.specs.Tick.{heard}
 use borrow.Author.Needs.{needs}
 use Rattle.mixer.proofs.Buses.{zeroth}
 use Rattle.mixer.proofs.tick.frame_of.Statement.{statement}
@@ -92,9 +90,6 @@ part-downmix-start c = search needs
 part-downmix-end : tie.Need-part-downmix-end
 part-downmix-end c = search needs
 
-array-read-downmix : tie.Need-array-read-downmix
-array-read-downmix c = search needs
-
 downmix-requires : tie.Need-downmix-requires
 downmix-requires c κs = search needs
 
@@ -103,9 +98,6 @@ slice-aggregate-downmix-2 c = search needs
 
 slice-aggregate-downmix-3 : tie.Need-slice-aggregate-downmix-3
 slice-aggregate-downmix-3 c = search needs
-
-array-read-downmix-2 : tie.Need-array-read-downmix-2
-array-read-downmix-2 c = search needs
 
 downmix-requires-2 : tie.Need-downmix-requires-2
 downmix-requires-2 c κs = search needs
@@ -116,18 +108,8 @@ slice-aggregate-downmix-4 c = search needs
 slice-aggregate-downmix-5 : tie.Need-slice-aggregate-downmix-5
 slice-aggregate-downmix-5 c = search needs
 
-array-read-downmix-3 : tie.Need-array-read-downmix-3
-array-read-downmix-3 c = search needs
-
 downmix-requires-3 : tie.Need-downmix-requires-3
 downmix-requires-3 c κs = search needs
-
-volumes : (c : tie.Start) → length (c .args .state .volume) ≡ 3
-volumes c = search needs
-
--- the volume that the code reads
-loud : (c : tie.Start) (k : ℕ) → k < 3 → getD (c .args .state .volume) k nan ≡ getD (c .args .state .volume) k +0
-loud c k h = getD-any (c .args .state .volume) k nan +0 (subst (λ (n : ℕ). k < n) (sym (volumes c)) h)
 
 returns : tie.Need-returns
 returns c =
@@ -136,18 +118,17 @@ returns c =
     let first = second .before .before .before .before in
     let h2 = first .before .before .before .before in
     let h1 = h2 .before .before .before .before .before in
-    let s = h1 .before .before .before .before .before .before .before .before in
+    let s = h1 .before .before .before .before .before .before .before in
     let a = s .args in
     let read = a .read .now in
     let mixes = a .given .now in
     let at = a .l .«intermediate_samples» in
     let m1 : h1 .hear .last .1 .1 .1 .0 ≡ heard (a .l) (a .state) read mixes 1 =
-    h1 .hear .ensures ∙ ap (λ (l : List ℕ). cond (getD (a .state .aux) 0 false) (wordsIn l) (mixOf 1 mixes)) (lent-is at 2560 read ∙ ap (λ (n : ℕ). take 2560 (drop n read)) (zeroth at)) in
+    h1 .hear .ensures ∙ ap (λ (l : List ℕ). cond (auxOn (a .state) 0) (wordsIn l) (mixOf 1 mixes)) (lent-is at auxBytes read ∙ ap (λ (n : ℕ). take auxBytes (drop n read)) (zeroth at)) in
     let m2 : h2 .hear2 .last .1 .1 .1 .0 ≡ heard (a .l) (a .state) read mixes 2 =
-    h2 .hear2 .ensures ∙ ap (λ (l : List ℕ). cond (getD (a .state .aux) 1 false) (wordsIn l) (mixOf 2 mixes)) (lent-is (at + 2560) 2560 read) in
-    let d1 = first .downmix .ensures ∙ (λ i. downmixed (a .state .output) (loud s 0 (lit< tt) i) (mixOf 0 mixes) silence) in
-    let d2 = second .downmix2 .ensures ∙ (λ i. downmixed (a .state .output) (loud s 1 (lit< tt) i) (m1 i) (d1 i)) in
-    third .downmix3 .ensures ∙ (λ i. downmixed (a .state .output) (loud s 2 (lit< tt) i) (m2 i) (d2 i))
+    h2 .hear2 .ensures ∙ ap (λ (l : List ℕ). cond (auxOn (a .state) 1) (wordsIn l) (mixOf 2 mixes)) (lent-is (at + auxBytes) auxBytes read) in
+    let d2 = second .downmix2 .ensures ∙ (λ i. downmixed (a .state) 1 (m1 i) (first .downmix .ensures i)) in
+    third .downmix3 .ensures ∙ (λ i. downmixed (a .state) 2 (m2 i) (d2 i))
 
 pub frame-of-spec : {M : Type 1} → statement M
 frame-of-spec =
@@ -178,14 +159,11 @@ frame-of-spec =
     sub-downmix
     part-downmix-start
     part-downmix-end
-    array-read-downmix
     downmix-requires
     slice-aggregate-downmix-2
     slice-aggregate-downmix-3
-    array-read-downmix-2
     downmix-requires-2
     slice-aggregate-downmix-4
     slice-aggregate-downmix-5
-    array-read-downmix-3
     downmix-requires-3
     returns)

@@ -1,12 +1,25 @@
 -- `mixer::tick::tick` meets its contract: each return is one case of the definitions. Assumes nothing.
 use mathlib.Core.Path.{sym, ap, _∙_, subst}
+use mathlib.Core.List.{List}
+use Prim.Native.Nat.{ℕ}
 use lib.ListN.{length}
 use Rattle.memory.proofs.Places.{accepted}
-use Rattle.mixer.specs.Tick.{Roomy, refused}
+use Rattle.mixer.specs.declared.tick.Mixed.{Mixed}
+use Rattle.mixer.specs.Tick.{Roomy, Outcome, refusal}
 use Rattle.mixer.proofs.Outcomes.{none, roomy, refused-layout, refused-mixes, refused-region, served-first, served-second}
 use borrow.Author.Needs.{needs}
 use Rattle.mixer.proofs.tick.tick.Statement.{statement}
 use Rattle.mixer.proofs.tick.tick.Tie as tie
+
+-- the three parts of an outcome
+abbrev answer : Outcome → Mixed
+answer o = o .answer
+
+abbrev first : Outcome → List ℕ
+first o = o .first
+
+abbrev second : Outcome → List ℕ
+second o = o .second
 
 layout-number-requires : tie.Need-layout-number-requires
 layout-number-requires c κs = search needs
@@ -19,8 +32,8 @@ returns c =
     let n = c .before .before in
     let a = n .before .before .before .args in
     let e = n .layout-number .ensures in
-    let right = refused-layout (a .l) (a .mixer) (a .given .now) (a .read) (a .first .now) (a .second .now) (λ z. c .before .if1 .taken (e ∙ z)) in
-    (c .refuse .ensures ∙ ap (refused (a .mixer)) e ∙ right .0, right .1)
+    let right = refused-layout (a .l) (a .mixer) (a .given .now) (a .which) (a .first .now) (a .second .now) (λ z. c .before .if1 .taken (e ∙ z)) in
+    (c .refuse .ensures ∙ ap (refusal (a .mixer)) e ∙ ap answer right, (ap first right, ap second right))
 
 refuse-requires-2 : tie.Need-refuse-requires-2
 refuse-requires-2 c κs = search needs
@@ -29,8 +42,8 @@ returns-2 : tie.Need-returns-2
 returns-2 c =
     let n = c .before .before .before in
     let a = n .before .before .before .args in
-    let right = refused-mixes (a .l) (a .mixer) (a .given .now) (a .read) (a .first .now) (a .second .now) (sym (n .layout-number .ensures) ∙ c .before .before .if1 .left) (c .before .if2 .taken) in
-    (c .refuse2 .ensures ∙ right .0, right .1)
+    let right = refused-mixes (a .l) (a .mixer) (a .given .now) (a .which) (a .first .now) (a .second .now) (sym (n .layout-number .ensures) ∙ c .before .before .if1 .left) (c .before .if2 .taken) in
+    (c .refuse2 .ensures ∙ ap answer right, (ap first right, ap second right))
 
 refuse-requires-3 : tie.Need-refuse-requires-3
 refuse-requires-3 c κs = search needs
@@ -39,8 +52,8 @@ returns-3 : tie.Need-returns-3
 returns-3 c =
     let n = c .before .before .before .before in
     let a = n .before .before .before .args in
-    let right = refused-region (a .l) (a .mixer) (a .given .now) (a .read) (a .first .now) (a .second .now) (sym (n .layout-number .ensures) ∙ c .before .before .before .if1 .left) (c .before .before .if2 .left) (c .before .if3 .taken) in
-    (c .refuse3 .ensures ∙ right .0, right .1)
+    let right = refused-region (a .l) (a .mixer) (a .given .now) (a .which) (a .first .now) (a .second .now) (sym (n .layout-number .ensures) ∙ c .before .before .before .if1 .left) (c .before .before .if2 .left) (c .before .if3 .taken) in
+    (c .refuse3 .ensures ∙ ap answer right, (ap first right, ap second right))
 
 mix-requires : tie.Need-mix-requires
 mix-requires c κs =
@@ -48,7 +61,7 @@ mix-requires c κs =
     let n = two .before .before in
     let a = n .before .before .before .args in
     let e = sym (n .layout-number .ensures) ∙ two .before .if1 .left in (
-      roomy (length (a .first .now)) (length (a .second .now)) (a .l) (length (a .given .now)) (a .read) e,
+      roomy (length (a .first .now)) (length (a .second .now)) (a .l) (length (a .given .now)) (a .which) e,
       (sym (accepted (length (a .first .now)) (length (a .second .now)) (a .l) e .same), two .if2 .left),
     )
 
@@ -64,9 +77,9 @@ returns-4 c =
     let four = m .before .before .before in
     let n = four .before .before .before .before in
     let a = n .before .before .before .args in
-    let zero = none (length (a .first .now)) (length (a .second .now)) (a .l) (length (a .given .now)) (a .read) (sym (n .layout-number .ensures) ∙ four .before .before .before .if1 .left) (four .before .before .if2 .left) (four .before .if3 .left) in
-    let right = served-first (a .l) (a .mixer) (a .given .now) (a .read) (a .first .now) (a .second .now) zero (four .if4 .taken) in
-    (m .mix .ensures .0 ∙ right .0, (m .mix .ensures .1 .0 ∙ right .1 .0, m .mix .ensures .1 .1 ∙ right .1 .1))
+    let zero = none (length (a .first .now)) (length (a .second .now)) (a .l) (length (a .given .now)) (a .which) (sym (n .layout-number .ensures) ∙ four .before .before .before .if1 .left) (four .before .before .if2 .left) (four .before .if3 .left) in
+    let right = served-first (a .l) (a .mixer) (a .given .now) (a .which) (a .first .now) (a .second .now) zero (four .if4 .taken) in
+    (m .mix .ensures .0 ∙ ap answer right, (m .mix .ensures .1 .0 ∙ ap first right, m .mix .ensures .1 .1 ∙ ap second right))
 
 mix-requires-2 : tie.Need-mix-requires-2
 mix-requires-2 c κs =
@@ -75,7 +88,7 @@ mix-requires-2 c κs =
     let a = n .before .before .before .args in
     let e = sym (n .layout-number .ensures) ∙ two .before .if1 .left in
     let same = accepted (length (a .first .now)) (length (a .second .now)) (a .l) e .same in (
-      subst (Roomy (a .l)) same (roomy (length (a .first .now)) (length (a .second .now)) (a .l) (length (a .given .now)) (a .read) e),
+      subst (Roomy (a .l)) same (roomy (length (a .first .now)) (length (a .second .now)) (a .l) (length (a .given .now)) (a .which) e),
       (same, two .if2 .left),
     )
 
@@ -91,9 +104,9 @@ returns-5 c =
     let four = m .before .before .before in
     let n = four .before .before .before .before in
     let a = n .before .before .before .args in
-    let zero = none (length (a .first .now)) (length (a .second .now)) (a .l) (length (a .given .now)) (a .read) (sym (n .layout-number .ensures) ∙ four .before .before .before .if1 .left) (four .before .before .if2 .left) (four .before .if3 .left) in
-    let right = served-second (a .l) (a .mixer) (a .given .now) (a .read) (a .first .now) (a .second .now) zero (four .if4 .left) in
-    (m .mix2 .ensures .0 ∙ right .0, (m .mix2 .ensures .1 .1 ∙ right .1 .0, m .mix2 .ensures .1 .0 ∙ right .1 .1))
+    let zero = none (length (a .first .now)) (length (a .second .now)) (a .l) (length (a .given .now)) (a .which) (sym (n .layout-number .ensures) ∙ four .before .before .before .if1 .left) (four .before .before .if2 .left) (four .before .if3 .left) in
+    let right = served-second (a .l) (a .mixer) (a .given .now) (a .which) (a .first .now) (a .second .now) zero (four .if4 .left) in
+    (m .mix2 .ensures .0 ∙ ap answer right, (m .mix2 .ensures .1 .1 ∙ ap first right, m .mix2 .ensures .1 .0 ∙ ap second right))
 
 pub tick-spec : {M : Type 1} → statement M
 tick-spec =
