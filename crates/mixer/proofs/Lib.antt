@@ -1,4 +1,5 @@
 pub mod Buses
+pub mod Exactly
 pub mod Outcomes
 pub mod Traps
 pub mod Silent

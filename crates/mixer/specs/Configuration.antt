@@ -30,7 +30,7 @@ module _ (bytes : List ℕ) (m : Mixer) where
   abbrev auxBy : ℕ → ℕ → ℕ → Bool
   auxBy k bit at = cond (flagged (dirtyIn bytes) bit) (not (eqb (at16 bytes at) 0)) (auxOn m k)
 
-  -- the state that the bytes leave: "A zero dirty word does nothing"; of any other, each field whose bit is set is read
+  -- the state that the bytes leave: as with a voice's, "A zero dirty word does nothing"; at any other each field whose bit is set is read
   unfoldable pub configured : Mixer
   configured =
       cond (eqb (dirtyIn bytes) 0) m

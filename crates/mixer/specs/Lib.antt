@@ -1,5 +1,6 @@
 pub mod Configuration
 pub mod Downmix
+pub mod Exactly
 pub mod Mixes
 pub mod Sizes
 pub mod State

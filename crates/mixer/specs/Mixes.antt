@@ -1,4 +1,5 @@
--- The mixes of a frame, "by mix, then channel, then sample", and how mixes and final samples stand in bytes. Assumes nothing: these are definitions.
+-- The mixes of a frame, "by mix, then channel, then sample", and how mixes and final samples stand in bytes.
+-- Assumes nothing: these are definitions.
 use Prim.Native.Nat.{ℕ, _+_, _*_}
 use mathlib.Core.List.{List, flatMap}
 use lib.IntN.{ℤ, pos}

@@ -6,18 +6,19 @@ use lib.Dec.{eqb, ltb}
 use lib.IntN.{ℤ, pos}
 use lib.ListN.{length, replicate}
 use Rattle.lists.specs.Splice.{part, splice}
+use Rattle.memory.specs.Little.{at32}
 use Rattle.memory.specs.Places.{layoutNumber}
 use Rattle.memory.specs.declared.layout.Layout.{Layout}
 use Rattle.mixer.specs.Sizes.{frameSize, mixesSize, configurationBytes, finalBytes, auxBytes, intermediateBytes}
 use Rattle.mixer.specs.State.{auxOn}
-use Rattle.mixer.specs.Configuration.{dirtyIn, configured}
+use Rattle.mixer.specs.Configuration.{configured}
 use Rattle.mixer.specs.Mixes.{mixOf, wordsIn, wordBytes, sampleBytes}
 use Rattle.mixer.specs.Downmix.{downmixed}
 use Rattle.mixer.specs.declared.state.Mixer.{Mixer}
 use Rattle.mixer.specs.declared.tick.Mixed.{Mixed}
 
--- "The lowest number that applies is returned": 1, 2 and 3 of the layout, 6 where the mixes are not 1,920 numbers, 8 where the number of the
--- region that is to be read exceeds 1
+-- "The lowest number that applies is returned": 1, 2 and 3 of the layout, 6 where the mixes are not 1,920 numbers, 8 where the number of
+-- the region to be read exceeds 1
 abbrev pub numberOf : ℕ → ℕ → Layout → ℕ → ℕ → ℕ
 numberOf first second l mixes which =
     cond (eqb (layoutNumber first second l) 0) (cond (not (eqb mixes mixesSize)) 6 (cond (ltb 1 which) 8 0)) (layoutNumber first second l)
@@ -25,6 +26,10 @@ numberOf first second l mixes which =
 -- 160 pairs of silence
 abbrev pub silence : List ℤ
 silence = replicate frameSize (pos 0)
+
+-- a region whose configuration at a place was read, the dirty word being its first: as with a voice's, "The dirty word is then 0"
+abbrev pub cleared : ℕ → List ℕ → List ℕ
+cleared at region = cond (eqb (at32 region at) 0) region (splice region at (replicate 4 0))
 
 -- the places that the mixer uses lie within regions of so many bytes
 pub record Roomy (l : Layout) (n : ℕ) : Type 0 where
@@ -46,10 +51,6 @@ module _ (l : Layout) where
   -- the state in force, which the call gives back
   abbrev pub stateOf : Mixer → List ℕ → Mixer
   stateOf m read = configured (configurationIn read) m
-
-  -- the region that is read, after: "A zero dirty word does nothing", and any other "is then 0"
-  abbrev pub readAfter : List ℕ → List ℕ
-  readAfter read = cond (eqb (dirtyIn (configurationIn read)) 0) read (splice read (l .«mixer_configuration») (replicate 4 0))
 
   module _ (s : Mixer) (mixes : List ℤ) where
     -- a region with the new mix of aux bus k, where that is on
@@ -103,7 +104,7 @@ module _ (l : Layout) (m : Mixer) (mixes : List ℤ) where
 
   -- and what it leaves in the region read and in the other one
   abbrev pub left : List ℕ × List ℕ → List ℕ × List ℕ
-  left used = (readAfter l (used .0), writeAfter l (stateOf l m (used .0)) (used .0) mixes (used .1))
+  left used = (cleared (l .«mixer_configuration») (used .0), writeAfter l (stateOf l m (used .0)) (used .0) mixes (used .1))
 
   module _ (which : ℕ) (first second : List ℕ) where
     abbrev pub accepted : Outcome

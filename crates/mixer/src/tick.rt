@@ -11,14 +11,10 @@ use memory::layout::Layout;
 use memory::little;
 use memory::mixer_config::CONFIG_SIZE;
 ghost use mathlib.Core.Path.{_≡_};
-ghost use mathlib.Core.Bool.{cond};
 ghost use Prim.Native.Nat.{_+_, _≤_};
-ghost use lib.Dec.{eqb};
-ghost use lib.ListN.{length, replicate};
-ghost use Rattle.lists.specs.Splice.{splice};
-ghost use Rattle.memory.specs.Little.{at32};
+ghost use lib.ListN.{length};
 ghost use Rattle.mixer.specs.Sizes.{frameSize, mixesSize, configurationBytes, intermediateBytes};
-ghost use Rattle.mixer.specs.Tick.{Roomy, readAfter, frameOf, outOf, writeAfter, stateOf, served, refusal, ticked};
+ghost use Rattle.mixer.specs.Tick.{Roomy, cleared, frameOf, outOf, served, left, refusal, ticked};
 
 // Where mixes 1 and 2 of the three begin.
 const MIX_1: usize = MIX_SIZE;
@@ -42,9 +38,19 @@ fn frame_of(l: Layout, state: Mixer, read: &[u8], given: &[i32]) -> [i16; FRAME_
     let middle = start + AUX_MIX_SIZE;
     let end = middle + AUX_MIX_SIZE;
     let mut first = [0i32; MIX_SIZE];
-    mixes::hear(aux[0], &read[start..middle], &given[MIX_1..MIX_2], &mut first);
+    mixes::hear(
+        aux[0],
+        &read[start..middle],
+        &given[MIX_1..MIX_2],
+        &mut first,
+    );
     let mut second = [0i32; MIX_SIZE];
-    mixes::hear(aux[1], &read[middle..end], &given[MIX_2..MIXES_SIZE], &mut second);
+    mixes::hear(
+        aux[1],
+        &read[middle..end],
+        &given[MIX_2..MIXES_SIZE],
+        &mut second,
+    );
     let mut frame = [0i16; FRAME_SIZE];
     downmix(&mut frame, &given[0..MIX_SIZE], state, 0);
     downmix(&mut frame, &first, state, 1);
@@ -60,14 +66,19 @@ fn write_out(l: Layout, state: Mixer, given: &[i32], frame: &[i16], write: &mut 
     let aux = state.aux;
     let start = l.intermediate_samples as usize;
     mixes::send(aux[0], &given[MIX_1..MIX_2], write, start);
-    mixes::send(aux[1], &given[MIX_2..MIXES_SIZE], write, start + AUX_MIX_SIZE);
+    mixes::send(
+        aux[1],
+        &given[MIX_2..MIXES_SIZE],
+        write,
+        start + AUX_MIX_SIZE,
+    );
     mixes::put_frame(frame, write, l.final_samples as usize);
 }
 
 // Clears the dirty word of the configuration at a place, where it is not 0.
 fn clear_dirty(read: &mut [u8], at: usize)
     requires { ⌜ at + configurationBytes ≤ length (now read) ⌝ }
-    ensures { λ _. ⌜ now (read .exit) ≡ cond (eqb (at32 (now (read .entry)) at) 0) (now (read .entry)) (splice (now (read .entry)) at (replicate 4 0)) ⌝ }
+    ensures { λ _. ⌜ now (read .exit) ≡ cleared at (now (read .entry)) ⌝ }
 {
     if little::read32(read, at) != 0 {
         little::write32(read, at, 0);
@@ -75,15 +86,15 @@ fn clear_dirty(read: &mut [u8], at: usize)
 }
 
 // A call that is not refused, by the region that is read and the other one.
-fn mix(l: Layout, mixer: Mixer, read: &mut [u8], write: &mut [u8], given: &[i32]) -> Mixed
+fn mix(l: Layout, m: Mixer, read: &mut [u8], write: &mut [u8], given: &[i32]) -> Mixed
     requires { ⌜ Roomy l (length (now read)) × ((length (now write) ≡ length (now read)) × (length (now given) ≡ mixesSize)) ⌝ }
-    ensures answer { λ r. ⌜ r ≡ served l mixer (now (given .entry)) (now (read .entry)) ⌝ }
-    ensures read { λ _. ⌜ now (read .exit) ≡ readAfter l (now (read .entry)) ⌝ }
-    ensures written { λ _. ⌜ now (write .exit) ≡ writeAfter l (stateOf l mixer (now (read .entry))) (now (read .entry)) (now (given .entry)) (now (write .entry)) ⌝ }
+    ensures answer { λ r. ⌜ r ≡ served l m (now (given .entry)) (now (read .entry)) ⌝ }
+    ensures read { λ _. ⌜ now (read .exit) ≡ left l m (now (given .entry)) (now (read .entry), now (write .entry)) .0 ⌝ }
+    ensures written { λ _. ⌜ now (write .exit) ≡ left l m (now (given .entry)) (now (read .entry), now (write .entry)) .1 ⌝ }
 {
     let at = l.mixer_configuration as usize;
     let end = at + CONFIG_SIZE;
-    let state = parse_config(mixer, &read[at..end]);
+    let state = parse_config(m, &read[at..end]);
     let frame = frame_of(l, state, read, given);
     write_out(l, state, given, &frame, write);
     clear_dirty(read, at);
@@ -107,29 +118,29 @@ fn refuse(number: u8, mixer: Mixer) -> Mixed
 
 // Mixes one frame: `which` is the number of the region that the title wrote last, which is read.
 pub fn tick(
-    mixer: Mixer,
+    m: Mixer,
     l: Layout,
     which: u32,
     first: &mut [u8],
     second: &mut [u8],
     given: &[i32],
 ) -> Mixed
-    ensures answer { λ r. ⌜ r ≡ ticked l mixer (now (given .entry)) which (now (first .entry)) (now (second .entry)) .answer ⌝ }
-    ensures first { λ _. ⌜ now (first .exit) ≡ ticked l mixer (now (given .entry)) which (now (first .entry)) (now (second .entry)) .first ⌝ }
-    ensures second { λ _. ⌜ now (second .exit) ≡ ticked l mixer (now (given .entry)) which (now (first .entry)) (now (second .entry)) .second ⌝ }
+    ensures answer { λ r. ⌜ r ≡ ticked l m (now (given .entry)) which (now (first .entry)) (now (second .entry)) .answer ⌝ }
+    ensures left0 { λ _. ⌜ now (first .exit) ≡ ticked l m (now (given .entry)) which (now (first .entry)) (now (second .entry)) .first ⌝ }
+    ensures left1 { λ _. ⌜ now (second .exit) ≡ ticked l m (now (given .entry)) which (now (first .entry)) (now (second .entry)) .second ⌝ }
 {
     let number = memory::layout::layout_number(first.len(), second.len(), l);
     if number != 0 {
-        return refuse(number, mixer);
+        return refuse(number, m);
     }
     if given.len() != MIXES_SIZE {
-        return refuse(6, mixer);
+        return refuse(6, m);
     }
     if which > 1 {
-        return refuse(8, mixer);
+        return refuse(8, m);
     }
     if which == 0 {
-        return mix(l, mixer, first, second, given);
+        return mix(l, m, first, second, given);
     }
-    mix(l, mixer, second, first, given)
+    mix(l, m, second, first, given)
 }

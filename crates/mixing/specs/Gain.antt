@@ -1,5 +1,5 @@
--- What a sample adds to a mix value, in f32: "every multiply, add and divide rounds once, in the source's order", then the program's own cast.
--- Assumes nothing: these are definitions.
+-- What a sample adds to a mix value, in f32: "every multiply, add and divide rounds once, in the source's order", then the program's own
+-- cast. Assumes nothing: these are definitions.
 use Prim.Native.Nat.{ℕ}
 use lib.IntN.{ℤ, pos}
 use lib.Ieee.{Float}

@@ -1,5 +1,5 @@
--- A case of document 01, "Checked by hand": a fade between gains so far apart that their difference is an infinity. `proofs/Overflow.antt` proves it.
--- Assumes nothing.
+-- A case of document 01, "Checked by hand": a fade between gains so far apart that their difference is an infinity.
+-- `proofs/Overflow.antt` proves it. Assumes nothing.
 use mathlib.Core.Path.{_≡_}
 use lib.IntN.{ℤ, pos}
 use lib.Ieee.{Float}

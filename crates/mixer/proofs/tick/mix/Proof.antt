@@ -1,15 +1,9 @@
 -- `mixer::tick::mix` meets its contract: the calls' equations, one put into the next. Assumes nothing.
-use mathlib.Core.Path.{_≡_, sym, ap, _∙_}
-use mathlib.Core.Bool.{cond}
+use mathlib.Core.Path.{_≡_, ap, _∙_}
 use mathlib.Core.List.{List}
-use Prim.Native.Nat.{ℕ, _+_}
-use native.Mathlib.Omega.{arith}
-use lib.Dec.{eqb, lit≤}
-use lib.ListN.{take, drop, replicate}
-use Rattle.lists.specs.Splice.{splice}
+use Prim.Native.Nat.{ℕ}
 use Rattle.lists.proofs.Splice.{lent-is}
-use Rattle.memory.proofs.Bytes.{part-at32}
-use Rattle.memory.specs.Little.{at32}
+use Rattle.mixer.specs.Sizes.{configurationBytes}
 use Rattle.mixer.specs.declared.state.Mixer.{Mixer}
 use Rattle.mixer.specs.Configuration.{configured}
 use Rattle.mixer.specs.Tick.{stateOf, frameOf, outOf}
@@ -53,13 +47,6 @@ same-length c = search needs
 same-length-2 : tie.Need-same-length-2
 same-length-2 c = search needs
 
--- the dirty word as the definition reads it
-dirty : (read : List ℕ) (at : ℕ) → at32 read at ≡ at32 (take 44 (drop at read)) 0
-dirty read at = ap (at32 read) at0 ∙ sym (part-at32 read at 44 0 (lit≤ tt))
-  where
-    at0 : at ≡ at + 0
-    at0 = omega arith
-
 returns : tie.Need-returns
 returns c =
     let cleared = c .before .before in
@@ -70,12 +57,12 @@ returns c =
     let read = a .read .now in
     let mixes = a .given .now in
     let at = a .l .«mixer_configuration» in
-    let state : parsed .parse-config .result ≡ stateOf (a .l) (a .mixer) read =
-    parsed .parse-config .ensures ∙ ap (λ (bytes : List ℕ). configured bytes (a .mixer)) (lent-is at 44 read) in
+    let state : parsed .parse-config .result ≡ stateOf (a .l) (a .m) read =
+    parsed .parse-config .ensures ∙ ap (λ (bytes : List ℕ). configured bytes (a .m)) (lent-is at configurationBytes read) in
     let frame = framed .frame-of .ensures ∙ ap (λ (s : Mixer). frameOf (a .l) s read mixes) state in (
       λ j. record { number = 0; mixer = state j; frame = frame j },
       (
-        cleared .clear-dirty .ensures ∙ ap (λ (n : ℕ). cond (eqb n 0) read (splice read at (replicate 4 0))) (dirty read at),
+        cleared .clear-dirty .ensures,
         out .write-out .ensures ∙ (λ j. outOf (a .l) (state j) mixes (frame j) (a .write .now)),
       ),
     )

@@ -32,8 +32,8 @@ returns c =
     let n = c .before .before in
     let a = n .before .before .before .args in
     let e = n .layout-number .ensures in
-    let right = refused-layout (a .l) (a .mixer) (a .given .now) (a .which) (a .first .now) (a .second .now) (λ z. c .before .if1 .taken (e ∙ z)) in
-    (c .refuse .ensures ∙ ap (refusal (a .mixer)) e ∙ ap answer right, (ap first right, ap second right))
+    let right = refused-layout (a .l) (a .m) (a .given .now) (a .which) (a .first .now) (a .second .now) (λ z. c .before .if1 .taken (e ∙ z)) in
+    (c .refuse .ensures ∙ ap (refusal (a .m)) e ∙ ap answer right, (ap first right, ap second right))
 
 refuse-requires-2 : tie.Need-refuse-requires-2
 refuse-requires-2 c κs = search needs
@@ -42,7 +42,7 @@ returns-2 : tie.Need-returns-2
 returns-2 c =
     let n = c .before .before .before in
     let a = n .before .before .before .args in
-    let right = refused-mixes (a .l) (a .mixer) (a .given .now) (a .which) (a .first .now) (a .second .now) (sym (n .layout-number .ensures) ∙ c .before .before .if1 .left) (c .before .if2 .taken) in
+    let right = refused-mixes (a .l) (a .m) (a .given .now) (a .which) (a .first .now) (a .second .now) (sym (n .layout-number .ensures) ∙ c .before .before .if1 .left) (c .before .if2 .taken) in
     (c .refuse2 .ensures ∙ ap answer right, (ap first right, ap second right))
 
 refuse-requires-3 : tie.Need-refuse-requires-3
@@ -52,7 +52,7 @@ returns-3 : tie.Need-returns-3
 returns-3 c =
     let n = c .before .before .before .before in
     let a = n .before .before .before .args in
-    let right = refused-region (a .l) (a .mixer) (a .given .now) (a .which) (a .first .now) (a .second .now) (sym (n .layout-number .ensures) ∙ c .before .before .before .if1 .left) (c .before .before .if2 .left) (c .before .if3 .taken) in
+    let right = refused-region (a .l) (a .m) (a .given .now) (a .which) (a .first .now) (a .second .now) (sym (n .layout-number .ensures) ∙ c .before .before .before .if1 .left) (c .before .before .if2 .left) (c .before .if3 .taken) in
     (c .refuse3 .ensures ∙ ap answer right, (ap first right, ap second right))
 
 mix-requires : tie.Need-mix-requires
@@ -78,7 +78,7 @@ returns-4 c =
     let n = four .before .before .before .before in
     let a = n .before .before .before .args in
     let zero = none (length (a .first .now)) (length (a .second .now)) (a .l) (length (a .given .now)) (a .which) (sym (n .layout-number .ensures) ∙ four .before .before .before .if1 .left) (four .before .before .if2 .left) (four .before .if3 .left) in
-    let right = served-first (a .l) (a .mixer) (a .given .now) (a .which) (a .first .now) (a .second .now) zero (four .if4 .taken) in
+    let right = served-first (a .l) (a .m) (a .given .now) (a .which) (a .first .now) (a .second .now) zero (four .if4 .taken) in
     (m .mix .ensures .0 ∙ ap answer right, (m .mix .ensures .1 .0 ∙ ap first right, m .mix .ensures .1 .1 ∙ ap second right))
 
 mix-requires-2 : tie.Need-mix-requires-2
@@ -105,7 +105,7 @@ returns-5 c =
     let n = four .before .before .before .before in
     let a = n .before .before .before .args in
     let zero = none (length (a .first .now)) (length (a .second .now)) (a .l) (length (a .given .now)) (a .which) (sym (n .layout-number .ensures) ∙ four .before .before .before .if1 .left) (four .before .before .if2 .left) (four .before .if3 .left) in
-    let right = served-second (a .l) (a .mixer) (a .given .now) (a .which) (a .first .now) (a .second .now) zero (four .if4 .left) in
+    let right = served-second (a .l) (a .m) (a .given .now) (a .which) (a .first .now) (a .second .now) zero (four .if4 .left) in
     (m .mix2 .ensures .0 ∙ ap answer right, (m .mix2 .ensures .1 .1 ∙ ap first right, m .mix2 .ensures .1 .0 ∙ ap second right))
 
 pub tick-spec : {M : Type 1} → statement M

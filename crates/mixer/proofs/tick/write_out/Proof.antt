@@ -1,10 +1,11 @@
 -- `mixer::tick::write_out` meets its contract: the calls' equations, one put into the next. Assumes nothing.
 use mathlib.Core.Path.{_≡_, ap, _∙_}
-use mathlib.Core.Bool.{false, cond}
+use mathlib.Core.Bool.{cond}
 use mathlib.Core.List.{List}
 use Prim.Native.Nat.{ℕ, _+_}
-use lib.ListN.{getD}
 use Rattle.lists.specs.Splice.{splice}
+use Rattle.mixer.specs.Sizes.{auxBytes}
+use Rattle.mixer.specs.State.{auxOn}
 use Rattle.mixer.specs.Mixes.{mixOf, wordBytes, sampleBytes}
 use Rattle.mixer.specs.Tick.{sent}
 use borrow.Author.Needs.{needs}
@@ -64,12 +65,11 @@ returns c =
     let first = second .before .before .before .before .before in
     let a = first .before .before .before .before .before .before .args in
     let mixes = a .given .now in
-    let aux = a .state .aux in
     let at = a .l .«intermediate_samples» in
     let one : first .send .last .1 .1 .0 ≡ sent (a .l) (a .state) mixes 0 (a .write .now) =
-    first .send .ensures ∙ ap (λ (n : ℕ). cond (getD aux 0 false) (splice (a .write .now) n (wordBytes (mixOf 1 mixes))) (a .write .now)) (zeroth at) in
+    first .send .ensures ∙ ap (λ (n : ℕ). cond (auxOn (a .state) 0) (splice (a .write .now) n (wordBytes (mixOf 1 mixes))) (a .write .now)) (zeroth at) in
     let two : second .send2 .last .1 .1 .0 ≡ sent (a .l) (a .state) mixes 1 (sent (a .l) (a .state) mixes 0 (a .write .now)) =
-    second .send2 .ensures ∙ ap (λ (w : List ℕ). cond (getD aux 1 false) (splice w (at + 2560) (wordBytes (mixOf 2 mixes))) w) one in
+    second .send2 .ensures ∙ ap (λ (w : List ℕ). cond (auxOn (a .state) 1) (splice w (at + auxBytes) (wordBytes (mixOf 2 mixes))) w) one in
     p .put-frame .ensures ∙ ap (λ (w : List ℕ). splice w (a .l .«final_samples») (sampleBytes (a .frame .now))) two
 
 pub write-out-spec : {M : Type 1} → statement M

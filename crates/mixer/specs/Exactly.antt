@@ -1,0 +1,49 @@
+-- What the numbers of the mixer's call mean: each is given exactly if its line of document 01's table holds, and none above it. And what a
+-- refused call leaves. `proofs/Exactly.antt` proves both of every call. Assumes nothing: these are statements.
+use Prim.Native.Nat.{ℕ, _≤_, _<_}
+use mathlib.Core.Path.{_≡_}
+use mathlib.Core.Logic.{_↔_, _≢_}
+use mathlib.Core.List.{List}
+use lib.IntN.{ℤ}
+use lib.ListN.{length}
+use Rattle.memory.specs.Places.{layoutNumber, Sound}
+use Rattle.memory.specs.declared.layout.Layout.{Layout}
+use Rattle.mixer.specs.Sizes.{mixesSize}
+use Rattle.mixer.specs.Tick.{Outcome, silence, ticked}
+use Rattle.mixer.specs.declared.state.Mixer.{Mixer}
+
+module _ (l : Layout) (m : Mixer) (mixes : List ℤ) (which : ℕ) (first second : List ℕ) where
+  abbrev call : Outcome
+  call = ticked l m mixes which first second
+
+  abbrev pub Gives : ℕ → Type 0
+  Gives n = call .answer .number ≡ n
+
+  -- 1, 2 and 3 are those of the regions' lengths and the layout, and none of them applies
+  abbrev pub Layouts : ℕ → Type 0
+  Layouts n = layoutNumber (length first) (length second) l ≡ n
+
+  abbrev pub NoneToThree : Type 0
+  NoneToThree = Sound (length first) (length second) l
+
+  -- "Given exactly if"
+  pub record ExactlyIf : Type 0 where
+    -- "no whole-call number applies"
+    pub zero : Gives 0 ↔ NoneToThree × (length mixes ≡ mixesSize) × (which ≤ 1)
+    pub one : Gives 1 ↔ Layouts 1
+    pub two : Gives 2 ↔ Layouts 2
+    pub three : Gives 3 ↔ Layouts 3
+    -- "the mix buffer is not 1,920 signed 32-bit numbers"
+    pub six : Gives 6 ↔ NoneToThree × (length mixes ≢ mixesSize)
+    -- "the mixer's region number exceeds 1"
+    pub eight : Gives 8 ↔ NoneToThree × (length mixes ≡ mixesSize) × (1 < which)
+
+  -- "A refused mixer call gives a zero frame and the state it was given", and in both regions there is "nothing written"
+  pub record LeavesAll : Type 0 where
+    pub frame : call .answer .frame ≡ silence
+    pub state : call .answer .mixer ≡ m
+    pub region0 : call .first ≡ first
+    pub region1 : call .second ≡ second
+
+  abbrev pub RefusedLeavesAll : Type 0
+  RefusedLeavesAll = call .answer .number ≢ 0 → LeavesAll
