@@ -15,7 +15,7 @@ use Rattle.memory.proofs.Places as places
 use Rattle.mixer.specs.declared.state.Mixer.{Mixer}
 use Rattle.mixer.specs.Sizes.{mixesSize}
 use Rattle.mixer.specs.Tick.{Outcome, numberOf, accepted, refused, ticked}
-use Rattle.mixer.specs.Exactly.{Gives, Layouts, ExactlyIf, RefusedLeavesAll}
+use Rattle.mixer.specs.Exactly.{Gives, Lowest, ExactlyIf, RefusedLeavesAll}
 use Rattle.mixer.proofs.Outcomes.{by-layout, by-mixes, by-region, none, refusal}
 
 -- ---- the chain of tests, by their outcomes: n is the layout's number, a that it is 0, b that the mixes are right, c that the region number is not
@@ -75,10 +75,10 @@ module _ (l : Layout) (m : Mixer) (mixes : List ℤ) (which : ℕ) (first second
       go true h = sym (h refl)
       go false h = refl
 
-  by-chain : (k : ℕ) → 0 < k → k ≤ 3 → Gives l m mixes which first second k → Layouts l m mixes which first second k
+  by-chain : (k : ℕ) → 0 < k → k ≤ 3 → Gives l m mixes which first second k → Lowest l m mixes which first second k
   by-chain k p q e = gives-layout (eqb layout 0) (eqb (length mixes) mixesSize) (ltb 1 which) layout k p q (sym number-is ∙ e)
 
-  chained : (k : ℕ) → 0 < k → Layouts l m mixes which first second k → Gives l m mixes which first second k
+  chained : (k : ℕ) → 0 < k → Lowest l m mixes which first second k → Gives l m mixes which first second k
   chained k p e = number-is ∙ by-layout (length first) (length second) l (length mixes) which (λ z. omega arith) ∙ e
 
   sound : Sound (length first) (length second) l → layout ≡ 0

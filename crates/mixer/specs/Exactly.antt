@@ -16,27 +16,29 @@ module _ (l : Layout) (m : Mixer) (mixes : List ℤ) (which : ℕ) (first second
   abbrev call : Outcome
   call = ticked l m mixes which first second
 
+  -- the call gives this number
   abbrev pub Gives : ℕ → Type 0
   Gives n = call .answer .number ≡ n
 
-  -- 1, 2 and 3 are those of the regions' lengths and the layout, and none of them applies
-  abbrev pub Layouts : ℕ → Type 0
-  Layouts n = layoutNumber (length first) (length second) l ≡ n
+  -- of 1, 2 and 3, which are of the regions' lengths and the layout alone, this is the lowest that applies
+  abbrev pub Lowest : ℕ → Type 0
+  Lowest n = layoutNumber (length first) (length second) l ≡ n
 
-  abbrev pub NoneToThree : Type 0
-  NoneToThree = Sound (length first) (length second) l
+  -- none of the three applies, in words of bytes
+  abbrev pub NoneOfThree : Type 0
+  NoneOfThree = Sound (length first) (length second) l
 
   -- "Given exactly if"
   pub record ExactlyIf : Type 0 where
     -- "no whole-call number applies"
-    pub zero : Gives 0 ↔ NoneToThree × (length mixes ≡ mixesSize) × (which ≤ 1)
-    pub one : Gives 1 ↔ Layouts 1
-    pub two : Gives 2 ↔ Layouts 2
-    pub three : Gives 3 ↔ Layouts 3
-    -- "the mix buffer is not 1,920 signed 32-bit numbers"
-    pub six : Gives 6 ↔ NoneToThree × (length mixes ≢ mixesSize)
-    -- "the mixer's region number exceeds 1"
-    pub eight : Gives 8 ↔ NoneToThree × (length mixes ≡ mixesSize) × (1 < which)
+    pub zero : Gives 0 ↔ NoneOfThree × (length mixes ≡ mixesSize) × (which ≤ 1)
+    pub one : Gives 1 ↔ Lowest 1
+    pub two : Gives 2 ↔ Lowest 2
+    pub three : Gives 3 ↔ Lowest 3
+    -- "the mix buffer is not 1,920 signed 32-bit numbers", and no lower number applies
+    pub six : Gives 6 ↔ NoneOfThree × (length mixes ≢ mixesSize)
+    -- "the mixer's region number exceeds 1", and no lower number applies
+    pub eight : Gives 8 ↔ NoneOfThree × (length mixes ≡ mixesSize) × (1 < which)
 
   -- "A refused mixer call gives a zero frame and the state it was given", and in both regions there is "nothing written"
   pub record LeavesAll : Type 0 where

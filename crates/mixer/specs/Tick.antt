@@ -27,7 +27,7 @@ numberOf first second l mixes which =
 abbrev pub silence : List ℤ
 silence = replicate frameSize (pos 0)
 
--- a region whose configuration at a place was read, the dirty word being its first: as with a voice's, "The dirty word is then 0"
+-- a region after its configuration at a place was read, which begins with the dirty word: as with a voice's, "The dirty word is then 0"
 abbrev pub cleared : ℕ → List ℕ → List ℕ
 cleared at region = cond (eqb (at32 region at) 0) region (splice region at (replicate 4 0))
 
@@ -107,6 +107,7 @@ module _ (l : Layout) (m : Mixer) (mixes : List ℤ) where
   left used = (cleared (l .«mixer_configuration») (used .0), writeAfter l (stateOf l m (used .0)) (used .0) mixes (used .1))
 
   module _ (which : ℕ) (first second : List ℕ) where
+    -- not refused: the regions are put in the order of their use, and back
     abbrev pub accepted : Outcome
     accepted =
         let used = exchanged which (first, second) in
@@ -120,5 +121,6 @@ module _ (l : Layout) (m : Mixer) (mixes : List ℤ) where
     abbrev number : ℕ
     number = numberOf (length first) (length second) l (length mixes) which
 
+    -- the whole call: what it gives and leaves
     unfoldable pub ticked : Outcome
     ticked = cond (eqb number 0) accepted (refused number)
