@@ -6,21 +6,26 @@ use mathlib.Core.List.{List}
 use mathlib.Core.Logic.{⊎-elim}
 use mathlib.Core.Path.{_≡_, refl, sym, ap, _∙_}
 use lib.Ieee.{lt, isNan}
-use lib.ListN.{getD}
+use lib.Dec.{ltb}
+use lib.ListN.{length, getD, take, length-take, List·getD-eq-default}
+use lib.Seq.{getD-take}
 use native.Mathlib.Omega.{arith}
 use borrow.Author.Tests.{le-ltb, ltb-false, not-false}
 use Rattle.lists.proofs.Bools.{cond-yes, not-yes, or-no, or-neither}
+use Rattle.lists.proofs.Some.{none-each, each-none}
 use Rattle.lists.proofs.Walk.{below-or}
 use Rattle.numbers.specs.Tests.{is-rate, is-fraction}
 use Rattle.filters.specs.Defaults.{defaultSimple, defaultBiquad}
-use Rattle.filters.specs.Range.{simpleInRange, biquadInRange}
+use Rattle.filters.specs.Range.{simpleInRange, biquadInRange, filtersInRange}
+use Rattle.filters.specs.declared.state.Filters.{Filters}
 use Rattle.voice.specs.declared.record.Entry.{Entry}
 use Rattle.voice.specs.declared.record.Format.{Format}
 use Rattle.voice.specs.declared.record.Format.the-variants.{Pcm8, Pcm16, Adpcm}
 use Rattle.voice.specs.declared.record.Voice.{Voice}
 use Rattle.voice.specs.Blank.{limit, blankHistory, blankEntry, defaultVoice}
 use Rattle.voice.specs.Set.{set-entry-adpcm}
-use Rattle.voice.specs.Malformed.{longAs, tooLong, anyTooLong, strayFilters, malformed, WellFormed}
+use Rattle.voice.specs.Long.{isAdpcm, tooLong, anyTooLong}
+use Rattle.voice.specs.Malformed.{queuedIn, malformed, WellFormed}
 use Rattle.voice.specs.Tidy.{tidyEntry, tidyFilters, tidied}
 use Rattle.voice.proofs.Tidied.{queued-at}
 
@@ -42,45 +47,51 @@ same-length e = by (e .«has_adpcm»)
     by true = refl
     by false = refl
 
--- a datum under a mark that passes its test
-passes : (on ok : Bool) → (on && not ok) ≡ false → on ≡ true → ok ≡ true
-passes true ok e h = not-false ok e
-passes false ok e h = cc
+-- an entry and the same, tidied
+same-long : (L : ℕ) (e : Entry) → tooLong L (tidyEntry e) ≡ tooLong L e
+unfolding tooLong
+same-long L e = λ j. isAdpcm (same-format e j) && ltb L (same-length e j)
 
-passed : (on ok : Bool) → (on ≡ true → ok ≡ true) → (on && not ok) ≡ false
-passed true ok h = not-yes (h refl)
-passed false ok h = refl
+blank-fits : (L : ℕ) → tooLong L blankEntry ≡ false
+unfolding tooLong blankEntry
+blank-fits L = refl
+
+-- what stands under a mark that is off is not asked
+tidy-in-range : (f : Filters) → filtersInRange (tidyFilters f) ≡ filtersInRange f
+unfolding tidyFilters
+tidy-in-range f = λ j. simple (f .«has_simple») j && biquad (f .«has_biquad») j
+  where
+    simple : (on : Bool) → cond on (simpleInRange (cond on (f .simple) defaultSimple)) true ≡ cond on (simpleInRange (f .simple)) true
+    simple true = refl
+    simple false = refl
+
+    biquad : (on : Bool) → cond on (biquadInRange (cond on (f .biquad) defaultBiquad)) true ≡ cond on (biquadInRange (f .biquad)) true
+    biquad true = refl
+    biquad false = refl
 
 module _ (L : ℕ) where
-  short : (f : Format) (n : ℕ) → longAs f L n ≡ false → f ≡ Adpcm → n ≤ L
-  short Pcm8 n e h = let z : _≡_ {A = ℕ} 0 1 = cc in omega arith
-  short Pcm16 n e h = let z : _≡_ {A = ℕ} 0 1 = cc in omega arith
-  short Adpcm n e h = ltb-false L n e
+  -- the queued entries by their places
+  pub entries-at : (v : Voice) → anyTooLong L (queuedIn v) ≡ false → (k : ℕ) → k < v .queued → tooLong L (getD (v .queue) k blankEntry) ≡ false
+  entries-at v e k h = ⊎-elim here past (below-or k (length (v .queue)))
+    where
+      here : k < length (v .queue) → tooLong L (getD (v .queue) k blankEntry) ≡ false
+      here l =
+          ap (tooLong L) (sym (getD-take (v .queued) (v .queue) k blankEntry h))
+          ∙ none-each (tooLong L) (queuedIn v) blankEntry e k (rw length-take (omega arith))
 
-  not-long : (f : Format) (n : ℕ) → (f ≡ Adpcm → n ≤ L) → longAs f L n ≡ false
-  not-long Pcm8 n h = refl
-  not-long Pcm16 n h = refl
-  not-long Adpcm n h = le-ltb L n (h refl)
+      past : length (v .queue) ≤ k → tooLong L (getD (v .queue) k blankEntry) ≡ false
+      past g = ap (tooLong L) (List·getD-eq-default (v .queue) blankEntry {n = k} g) ∙ blank-fits L
 
-  none-long : (queue : List Entry) (n : ℕ) → anyTooLong L queue n ≡ false → (k : ℕ) → k < n → tooLong L (getD queue k blankEntry) ≡ false
-  unfolding anyTooLong
-  none-long queue zero e k h = let bad : ⊥ = omega arith in absurd bad
-  none-long queue (suc n) e k h =
-      let both = or-neither (anyTooLong L queue n) (tooLong L (getD queue n blankEntry)) e in
-      ⊎-elim (λ (l : k < n). none-long queue n (both .0) k l)
-      (λ (g : n ≤ k). let same : k ≡ n = omega arith in ap (λ (i : ℕ). tooLong L (getD queue i blankEntry)) same ∙ both .1)
-      (below-or k n)
-
-  all-short : (queue : List Entry) (n : ℕ) → ((k : ℕ) → k < n → tooLong L (getD queue k blankEntry) ≡ false) → anyTooLong L queue n ≡ false
-  unfolding anyTooLong
-  all-short queue zero h = refl
-  all-short queue (suc n) h = or-no (tooLong L (getD queue n blankEntry)) (all-short queue n (λ k l. h k (omega arith))) ∙ h n (omega arith)
+  pub at-entries : (v : Voice) → ((k : ℕ) → k < v .queued → tooLong L (getD (v .queue) k blankEntry) ≡ false) → anyTooLong L (queuedIn v) ≡ false
+  at-entries v f =
+      each-none (tooLong L) (queuedIn v) blankEntry (λ k h.
+      let l : k < v .queued = omega (arith, rw length-take at h) in ap (tooLong L) (getD-take (v .queued) (v .queue) k blankEntry l) ∙ f k l)
 
   -- ---- both ways
 
   module _ (v : Voice) where
     pub not-malformed-formed : malformed L v ≡ false → WellFormed L v
-    unfolding malformed strayFilters
+    unfolding malformed
     not-malformed-formed e =
         let a = or-neither _ _ e in
         let b = or-neither _ _ (a .1) in
@@ -88,30 +99,26 @@ module _ (L : ℕ) where
         let d = or-neither _ _ (c .1) in
         let r = or-neither _ _ (d .1) in
         let f = or-neither _ _ (r .1) in
-        let g = or-neither _ _ (f .1) in
         record {
           queued = ltb-false limit (v .queued) (a .0);
           remaining = ltb-false (v .length) (v .remaining) (b .0);
           decoded = ltb-false L (v .decoded) (c .0);
-          entries = λ k h. short (getD (v .queue) k blankEntry .format) (getD (v .queue) k blankEntry .length) (none-long (v .queue) (v .queued) (d .0) k h);
+          entries = d .0;
           rate = not-false (is-rate (v .rate)) (r .0);
           fraction = not-false (is-fraction (v .fraction)) (f .0);
-          simple = passes (v .filters .«has_simple») (simpleInRange (v .filters .simple)) (g .0);
-          biquad = passes (v .filters .«has_biquad») (biquadInRange (v .filters .biquad)) (g .1);
+          filters = not-false (filtersInRange (v .filters)) (f .1);
         }
 
     pub formed-not-malformed : WellFormed L v → malformed L v ≡ false
-    unfolding malformed strayFilters
+    unfolding malformed
     formed-not-malformed w =
         or-no _ (le-ltb limit (v .queued) (w .queued))
         ∙ or-no _ (le-ltb (v .length) (v .remaining) (w .remaining))
         ∙ or-no _ (le-ltb L (v .decoded) (w .decoded))
-        ∙ or-no _
-        (all-short (v .queue) (v .queued) (λ k h. not-long (getD (v .queue) k blankEntry .format) (getD (v .queue) k blankEntry .length) (w .entries k h)))
+        ∙ or-no _ (w .entries)
         ∙ or-no _ (not-yes (w .rate))
         ∙ or-no _ (not-yes (w .fraction))
-        ∙ or-no _ (passed (v .filters .«has_simple») (simpleInRange (v .filters .simple)) (w .simple))
-        ∙ passed (v .filters .«has_biquad») (biquadInRange (v .filters .biquad)) (w .biquad)
+        ∙ not-yes (w .filters)
 
     -- ---- what is well-formed
 
@@ -121,15 +128,14 @@ module _ (L : ℕ) where
       queued = w .queued;
       remaining = w .remaining;
       decoded = w .decoded;
-      entries = λ k h f.
-          let e = getD (v .queue) k blankEntry in
-          let q = queued-at (v .queued) (v .queue) k h (w .queued) in
-          let n = ap (λ (x : Entry). x .length) q ∙ same-length e in
-          omega (arith, n, w .entries k h (sym (same-format e) ∙ sym (ap (λ (x : Entry). x .format) q) ∙ f));
+      entries =
+          at-entries (tidied v) (λ k h.
+          ap (tooLong L) (queued-at (v .queued) (v .queue) k h (w .queued))
+          ∙ same-long L (getD (v .queue) k blankEntry)
+          ∙ entries-at v (w .entries) k h);
       rate = w .rate;
       fraction = w .fraction;
-      simple = λ on. ap simpleInRange (cond-yes (v .filters .simple) defaultSimple on) ∙ w .simple on;
-      biquad = λ on. ap biquadInRange (cond-yes (v .filters .biquad) defaultBiquad on) ∙ w .biquad on;
+      filters = tidy-in-range (v .filters) ∙ w .filters;
     }
 
   pub default-formed : WellFormed L defaultVoice
@@ -138,9 +144,8 @@ module _ (L : ℕ) where
     queued = omega arith;
     remaining = omega arith;
     decoded = omega arith;
-    entries = λ k h f. omega arith;
+    entries = refl;
     rate = refl;
     fraction = refl;
-    simple = λ on. cc;
-    biquad = λ on. cc;
+    filters = refl;
   }

@@ -5,7 +5,7 @@ use lib.ListN.{length, length-map}
 use denote.Laws.{Is}
 use denote.Struct.Declared.{row}
 use denote.Struct.Laws.{val}
-use Rattle.voice.specs.Blank.{limit}
+use Rattle.voice.specs.Blank.{places}
 use Rattle.voice.specs.declared.record.Voice.{Voice}
 use Rattle.voice.proofs.record.Voice.{the-type}
 use Rattle.voice.proofs.record.Voice.Laws.{the-laws}
@@ -25,8 +25,8 @@ ramp-12 v g = sym (length-map (v .ramp) _) ∙ g .1 .1 .1 .1 .1 .1 .1 .1 .1 .1 .
 pub coefficients-16 : (v : Voice) → Good v → length (v .coefficients) ≡ 16
 coefficients-16 v g = sym (length-map (v .coefficients) _) ∙ g .1 .1 .1 .1 .1 .1 .1 .1 .1 .1 .1 .0 .1 .0 .1
 
-pub queue-limit : (v : Voice) → Good v → length (v .queue) ≡ limit
-queue-limit v g = sym (length-map (v .queue) _) ∙ g .1 .1 .1 .1 .1 .1 .1 .1 .1 .1 .1 .1 .1 .0 .1 .0 .1
+pub queue-places : (v : Voice) → Good v → length (v .queue) ≡ places
+queue-places v g = sym (length-map (v .queue) _) ∙ g .1 .1 .1 .1 .1 .1 .1 .1 .1 .1 .1 .1 .1 .0 .1 .0 .1
 
 pub frame-320 : (v : Voice) → Good v → length (v .frame) ≡ 320
 frame-320 v g =

@@ -18,19 +18,19 @@ use Rattle.adpcm.specs.declared.History.{History}
 use Rattle.filters.specs.Defaults.{defaultSimple, defaultBiquad}
 use Rattle.voice.specs.declared.record.Entry.{Entry}
 use Rattle.voice.specs.declared.record.Voice.{Voice}
-use Rattle.voice.specs.Blank.{limit, blankHistory, blankEntry, blankGain, defaultVoice}
+use Rattle.voice.specs.Blank.{places, blankHistory, blankEntry, blankGain, defaultVoice}
 use Rattle.voice.specs.Set.{set-entry-adpcm, set-voice-queue, set-voice-ramp, set-voice-filters, set-voice-playing}
 use Rattle.voice.specs.Tidy.{tidyEntry, tidyUnder, tidyQueue, tidyGain, tidyRamp, tidyFilters, tidied, BlankEntry, Blank}
 
 -- ---- lengths and places
 
-pub length-queue : (n : ℕ) (queue : List Entry) → length (tidyQueue n queue) ≡ limit
+pub length-queue : (n : ℕ) (queue : List Entry) → length (tidyQueue n queue) ≡ places
 unfolding tidyQueue
-length-queue n queue = length-tabulate (λ i. tidyUnder (ltb i n) (getD queue i blankEntry)) limit
+length-queue n queue = length-tabulate (λ i. tidyUnder (ltb i n) (getD queue i blankEntry)) places
 
-pub queue-at : (n : ℕ) (queue : List Entry) (i : ℕ) (d : Entry) → i < limit → getD (tidyQueue n queue) i d ≡ tidyUnder (ltb i n) (getD queue i blankEntry)
+pub queue-at : (n : ℕ) (queue : List Entry) (i : ℕ) (d : Entry) → i < places → getD (tidyQueue n queue) i d ≡ tidyUnder (ltb i n) (getD queue i blankEntry)
 unfolding tidyQueue
-queue-at n queue i d h = getD-tabulate (λ k. tidyUnder (ltb k n) (getD queue k blankEntry)) limit i d h
+queue-at n queue i d h = getD-tabulate (λ k. tidyUnder (ltb k n) (getD queue k blankEntry)) places i d h
 
 pub length-ramp : (marks : List Bool) (ramp : List Float) → length (tidyRamp marks ramp) ≡ 12
 unfolding tidyRamp
@@ -50,14 +50,14 @@ unfolding tidyUnder
 under-off on e h = cond-no (tidyEntry e) blankEntry h
 
 -- a queued entry, tidied
-pub queued-at : (n : ℕ) (queue : List Entry) (k : ℕ) → k < n → n ≤ limit → getD (tidyQueue n queue) k blankEntry ≡ tidyEntry (getD queue k blankEntry)
+pub queued-at : (n : ℕ) (queue : List Entry) (k : ℕ) → k < n → n ≤ places → getD (tidyQueue n queue) k blankEntry ≡ tidyEntry (getD queue k blankEntry)
 queued-at n queue k h l = queue-at n queue k blankEntry (omega arith) ∙ under-on (ltb k n) (getD queue k blankEntry) (lt-ltb k n h)
 
 -- past the count, also past the queue's end
 past-at : (n : ℕ) (queue : List Entry) (k : ℕ) → n ≤ k → getD (tidyQueue n queue) k blankEntry ≡ blankEntry
-past-at n queue k h = by (below-or k limit)
+past-at n queue k h = by (below-or k places)
   where
-    by : (k < limit) ⊎ (limit ≤ k) → getD (tidyQueue n queue) k blankEntry ≡ blankEntry
+    by : (k < places) ⊎ (places ≤ k) → getD (tidyQueue n queue) k blankEntry ≡ blankEntry
     by (inl l) = queue-at n queue k blankEntry l ∙ under-off (ltb k n) (getD queue k blankEntry) (le-ltb k n h)
     by (inr g) = List·getD-eq-default (tidyQueue n queue) blankEntry {n = k} (omega (arith, length-queue n queue))
 
@@ -81,9 +81,9 @@ under-blank true e = entry-blank e
 under-blank false e = blank-is-blank
 
 entries-blank : (n : ℕ) (queue : List Entry) (k : ℕ) → BlankEntry (getD (tidyQueue n queue) k blankEntry)
-entries-blank n queue k = by (below-or k limit)
+entries-blank n queue k = by (below-or k places)
   where
-    by : (k < limit) ⊎ (limit ≤ k) → BlankEntry (getD (tidyQueue n queue) k blankEntry)
+    by : (k < places) ⊎ (places ≤ k) → BlankEntry (getD (tidyQueue n queue) k blankEntry)
     by (inl l) = subst (λ (e : Entry). BlankEntry e) (sym (queue-at n queue k blankEntry l)) (under-blank (ltb k n) (getD queue k blankEntry))
     by (inr g) =
         subst (λ (e : Entry). BlankEntry e) (sym (List·getD-eq-default (tidyQueue n queue) blankEntry {n = k} (omega (arith, length-queue n queue)))) blank-is-blank
@@ -116,7 +116,7 @@ pub default-blank : Blank defaultVoice
 unfolding defaultVoice
 default-blank = record {
   entries = λ k h. let bad : ⊥ = omega arith in absurd bad;
-  places = λ k h. all-same blankEntry limit k;
+  places = λ k h. all-same blankEntry places k;
   ramp = λ k off. all-same blankGain 12 k;
   simple = λ off. refl;
   biquad = λ off. refl;
@@ -143,7 +143,7 @@ cond-kept true x blank off = refl
 cond-kept false x blank off = sym (off refl)
 
 module _ (v : Voice) (b : Blank v) where
-  queue-kept : length (v .queue) ≡ limit → tidyQueue (v .queued) (v .queue) ≡ v .queue
+  queue-kept : length (v .queue) ≡ places → tidyQueue (v .queued) (v .queue) ≡ v .queue
   queue-kept l =
       let n = v .queued in
       let q = v .queue in
@@ -170,7 +170,7 @@ module _ (v : Voice) (b : Blank v) where
         biquad = cond-kept (v .filters .«has_biquad») (v .filters .biquad) defaultBiquad (b .biquad) j;
       }
 
-  pub blank-kept : length (v .queue) ≡ limit → length (v .ramp) ≡ 12 → tidied v ≡ v
+  pub blank-kept : length (v .queue) ≡ places → length (v .ramp) ≡ 12 → tidied v ≡ v
   unfolding tidied
   blank-kept lq lr =
       λ j. set-voice-playing (under-kept (v .«has_playing») (v .playing) (b .silent) (b .playing) j)

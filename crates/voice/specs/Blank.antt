@@ -12,7 +12,11 @@ use Rattle.voice.specs.declared.record.Format.the-variants.{Pcm8, Pcm16}
 use Rattle.voice.specs.declared.record.Interpolation.the-variants.{Polyphase}
 use Rattle.voice.specs.declared.record.Voice.{Voice}
 
--- "its 64-place queue"
+-- "its 64-place queue": how many entries a record has room for
+abbrev pub places : ℕ
+places = 64
+
+-- how many of them may be queued, which the numbers 7 and 20 ask: "queue count over 64", "its queue would exceed 64"
 abbrev pub limit : ℕ
 limit = 64
 
@@ -55,7 +59,7 @@ defaultVoice =
       ramp = replicate 12 blankGain;
       coefficients = replicate 16 (pos 0);
       history = blankHistory;
-      queue = replicate limit blankEntry;
+      queue = replicate places blankEntry;
       queued = 0;
       «has_playing» = false;
       playing = blankEntry;

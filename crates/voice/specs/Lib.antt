@@ -1,4 +1,5 @@
 pub mod Blank
+pub mod Long
 pub mod Malformed
 pub mod Set
 pub mod Tidy

@@ -12,7 +12,7 @@ use Rattle.filters.specs.declared.state.Filters.{Filters}
 use Rattle.filters.specs.Defaults.{defaultSimple, defaultBiquad}
 use Rattle.voice.specs.declared.record.Entry.{Entry}
 use Rattle.voice.specs.declared.record.Voice.{Voice}
-use Rattle.voice.specs.Blank.{limit, blankHistory, blankEntry, blankGain}
+use Rattle.voice.specs.Blank.{places, blankHistory, blankEntry, blankGain}
 use Rattle.voice.specs.Set.{set-entry-adpcm, set-voice-queue, set-voice-ramp, set-voice-filters, set-voice-playing}
 
 -- an entry: its history is blank where the mark of that is off
@@ -25,7 +25,7 @@ tidyUnder on e = cond on (tidyEntry e) blankEntry
 
 -- a queue with so many entries: these in their order, and blank entries after them
 unfoldable pub tidyQueue : ℕ → List Entry → List Entry
-tidyQueue n queue = tabulate (λ i. tidyUnder (ltb i n) (getD queue i blankEntry)) limit
+tidyQueue n queue = tabulate (λ i. tidyUnder (ltb i n) (getD queue i blankEntry)) places
 
 -- a number of a ramp under a mark
 abbrev pub tidyGain : Bool → Float → Float

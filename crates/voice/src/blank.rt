@@ -8,8 +8,11 @@ use crate::record::Kinds;
 use crate::record::Voice;
 use adpcm::History;
 
-// How many entries a queue has places for.
-pub const QUEUE: usize = 64;
+// How many entries a record has room for.
+pub const PLACES: usize = 64;
+
+// How many of them may be queued.
+pub const LIMIT: usize = 64;
 
 pub fn blank_history() -> History
     ensures { λ r. ⌜ r ≡ blankHistory ⌝ }
@@ -58,7 +61,7 @@ pub fn default_voice() -> Voice
         ramp: [0.0; 12],
         coefficients: [0; 16],
         history,
-        queue: [b; QUEUE],
+        queue: [b; PLACES],
         queued: 0,
         has_playing: false,
         playing: b,

@@ -3,14 +3,13 @@ ghost use mathlib.Core.Path.{_≡_};
 ghost use Prim.Native.Nat.{_≤_};
 ghost use lib.Dec.{ltb};
 ghost use Rattle.voice.specs.Blank.{limit};
-ghost use Rattle.voice.specs.Malformed.{tooLong, anyTooLong, strayFilters, malformed};
-use crate::blank::QUEUE;
+ghost use Rattle.voice.specs.Long.{isAdpcm, tooLong, anyTooLong};
+ghost use Rattle.voice.specs.Malformed.{queuedIn, malformed};
+use crate::blank::LIMIT;
 use crate::record::Entry;
 use crate::record::Format;
 use crate::record::Voice;
-use filters::range::biquad_in_range;
-use filters::range::simple_in_range;
-use filters::state::Filters;
+use filters::range::filters_in_range;
 use numbers::tests::is_fraction;
 use numbers::tests::is_rate;
 
@@ -21,22 +20,28 @@ fn over(count: u32, lane: usize) -> bool
     count as usize > lane
 }
 
+fn is_adpcm(format: Format) -> bool
+    ensures { λ r. ⌜ r ≡ isAdpcm format ⌝ }
+{
+    match format {
+        Format::Pcm8 => false,
+        Format::Pcm16 => false,
+        Format::Adpcm => true,
+    }
+}
+
 // An ADPCM entry that is longer than the lane.
-fn too_long(e: Entry, lane: usize) -> bool
+pub fn too_long(e: Entry, lane: usize) -> bool
     ensures { λ r. ⌜ r ≡ tooLong lane e ⌝ }
 {
     let f = e.format;
-    match f {
-        Format::Pcm8 => false,
-        Format::Pcm16 => false,
-        Format::Adpcm => over(e.length, lane),
-    }
+    is_adpcm(f) & over(e.length, lane)
 }
 
 // No early exit, so that the loop's invariant is an equation.
 fn any_too_long(v: Voice, lane: usize) -> bool
     requires { ⌜ v .queued ≤ limit ⌝ }
-    ensures { λ r. ⌜ r ≡ anyTooLong lane (v .queue) (v .queued) ⌝ }
+    ensures { λ r. ⌜ r ≡ anyTooLong lane (queuedIn v) ⌝ }
 {
     let n = v.queued;
     let mut found = false;
@@ -50,21 +55,10 @@ fn any_too_long(v: Voice, lane: usize) -> bool
     found
 }
 
-// A filter that is on and holds a number out of range.
-fn stray_filters(f: Filters) -> bool
-    ensures { λ r. ⌜ r ≡ strayFilters f ⌝ }
-{
-    let simple = f.simple;
-    let biquad = f.biquad;
-    let first = f.has_simple & !simple_in_range(simple);
-    let second = f.has_biquad & !biquad_in_range(biquad);
-    first | second
-}
-
 pub fn malformed(v: Voice, lane: usize) -> bool
     ensures { λ r. ⌜ r ≡ malformed lane v ⌝ }
 {
-    if v.queued > QUEUE {
+    if v.queued > LIMIT {
         return true;
     }
     if v.remaining > v.length {
@@ -83,5 +77,5 @@ pub fn malformed(v: Voice, lane: usize) -> bool
         return true;
     }
     let f = v.filters;
-    stray_filters(f)
+    !filters_in_range(f)
 }

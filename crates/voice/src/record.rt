@@ -1,5 +1,6 @@
 // The record of a voice. Where the source has an `Option`, a mark stands beside the data.
 use adpcm::History;
+use crate::blank::PLACES;
 use filters::state::Filters;
 
 pub enum Format {
@@ -51,7 +52,7 @@ pub struct Voice {
     pub ramp: [f32; 12],
     pub coefficients: [i16; 16],
     pub history: History,
-    pub queue: [Entry; 64],
+    pub queue: [Entry; PLACES],
     pub queued: usize,
     // the entry being played, where its mark is on
     pub has_playing: bool,

@@ -4,7 +4,7 @@ ghost use mathlib.Core.Path.{_≡_};
 ghost use Rattle.filters.specs.Defaults.{defaultSimple, defaultBiquad};
 ghost use Rattle.voice.specs.Tidy.{tidyEntry, tidyUnder, tidyGain, tidyQueue, tidyRamp, tidyFilters, tidied};
 ghost use Rattle.voice.specs.Set.{set-voice-queue, set-voice-ramp};
-use crate::blank::QUEUE;
+use crate::blank::PLACES;
 use crate::blank::blank_entry;
 use crate::blank::blank_history;
 use crate::record::Entry;
@@ -43,7 +43,7 @@ fn tidy_queue(v: Voice) -> Voice
     let n = v.queued;
     let mut q = v.queue;
     let mut i: usize = 0;
-    while i < QUEUE {
+    while i < PLACES {
         let e = q[i];
         let t = tidy_under(i < n, e);
         q[i] = t;

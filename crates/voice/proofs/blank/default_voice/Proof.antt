@@ -4,7 +4,7 @@ use lib.ListN.{replicate}
 use Rattle.adpcm.specs.declared.History.{History}
 use Rattle.filters.specs.declared.state.Filters.{Filters}
 use Rattle.numbers.proofs.Literals.{zero-32, zero-64, one-64}
-use Rattle.voice.specs.Blank.{limit, defaultVoice}
+use Rattle.voice.specs.Blank.{places, defaultVoice}
 use Rattle.voice.specs.Set.{set-voice-rate, set-voice-filters, set-voice-gain, set-voice-ramp, set-voice-history, set-voice-queue, set-voice-playing, set-voice-fraction}
 use Rattle.voice.specs.declared.record.Entry.{Entry}
 use Rattle.voice.specs.declared.record.Voice.{Voice}
@@ -27,7 +27,7 @@ with e f h one zero none =
     (set-voice-filters f
     (set-voice-gain (replicate 12 none)
     (set-voice-ramp (replicate 12 none)
-    (set-voice-history h (set-voice-queue (replicate limit e) (set-voice-playing e (set-voice-fraction zero defaultVoice)))))))
+    (set-voice-history h (set-voice-queue (replicate places e) (set-voice-playing e (set-voice-fraction zero defaultVoice)))))))
 
 returns : tie.Need-returns
 unfolding defaultVoice

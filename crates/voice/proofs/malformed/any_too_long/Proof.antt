@@ -1,23 +1,23 @@
 -- `voice::malformed::any_too_long` meets its contract. The invariant: `found` is of the first `i` entries. Assumes nothing.
-use Prim.Native.Nat.{_≤_, _-_}
+use Prim.Native.Nat.{ℕ, _≤_, _<_, _-_}
 use mathlib.Core.Path.{_≡_, refl, sym, _∙_, ap}
 use mathlib.Core.Bool.{Bool, _||_}
-use lib.ListN.{getD}
+use lib.ListN.{length, take, getD}
 use native.Mathlib.Omega.{arith}
-use native.Mathlib.Numerals.{add-one}
+use Rattle.lists.proofs.Some.{some-more}
 use Rattle.voice.specs.Blank.{blankEntry}
-use Rattle.voice.specs.Malformed.{tooLong, anyTooLong}
+use Rattle.voice.specs.Long.{tooLong, anyTooLong}
+use Rattle.voice.proofs.Lengths.{queue-places}
 use Rattle.voice.proofs.malformed.any_too_long.Statement.{statement}
 use Rattle.voice.proofs.malformed.any_too_long.Tie as tie
 
 abbrev Inv-loop : tie.InvT-loop
-Inv-loop lane v n found₀ i₀ found i = (i ≤ n) × (found ≡ anyTooLong lane (v .queue) i)
+Inv-loop lane v n found₀ i₀ found i = (i ≤ n) × (found ≡ anyTooLong lane (take i (v .queue)))
 
 abbrev μ-loop : tie.MeasureT-loop
 μ-loop lane v n found₀ i₀ found i = n - i
 
 loop-holds : tie.Need-loop-holds Inv-loop μ-loop
-unfolding anyTooLong
 loop-holds c = (omega arith, refl)
 
 mul-e : tie.Need-mul-e Inv-loop μ-loop
@@ -36,21 +36,21 @@ loop-less : tie.Need-loop-less Inv-loop μ-loop
 loop-less c = omega arith
 
 loop-again : tie.Need-loop-again Inv-loop μ-loop
-unfolding anyTooLong blankEntry
+unfolding blankEntry
 loop-again c =
     let l = c .before .before .before .loop in
-    let a = c .before .before .before .before .args in (
+    let s = c .before .before .before .before in
+    let queue = s .args .t1 .queue in
+    let inside : l .i < length queue = omega (arith, queue-places (s .args .t1) (s .good .0)) in (
       omega arith,
-      ap (λ (b : Bool). l .found || b) (c .too-long .ensures)
-          ∙ ap (λ (b : Bool). b || tooLong (a .lane) (getD (a .t1 .queue) (l .i) blankEntry)) (l .inv .1)
-          ∙ ap (anyTooLong (a .lane) (a .t1 .queue)) (sym (add-one (l .i))),
+      (λ j. l .inv .1 j || c .too-long .ensures j) ∙ sym (some-more (tooLong (s .args .lane)) queue (l .i) blankEntry inside),
     )
 
 returns : tie.Need-returns Inv-loop μ-loop
 returns c =
     let a = c .before .before .args in
     let e : c .before .loop .i ≡ a .t1 .queued = omega arith in
-    c .before .loop .inv .1 ∙ ap (anyTooLong (a .lane) (a .t1 .queue)) e
+    c .before .loop .inv .1 ∙ ap (λ (n : ℕ). anyTooLong (a .lane) (take n (a .t1 .queue))) e
 
 pub any-too-long-spec : {M : Type 1} → statement M
 any-too-long-spec =

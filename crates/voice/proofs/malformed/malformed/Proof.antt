@@ -82,8 +82,8 @@ returns-6 c =
     ∙ or-no _ (ap not (sym (b .before .is-rate .ensures)) ∙ b .if5 .left)
     ∙ or-yes _ (ap not (sym (c .before .is-fraction .ensures)) ∙ c .if6 .taken))
 
-stray-filters-requires : tie.Need-stray-filters-requires
-stray-filters-requires c κs = tt
+filters-in-range-requires : tie.Need-filters-in-range-requires
+filters-in-range-requires c κs = tt
 
 returns-7 : tie.Need-returns-7
 unfolding malformed
@@ -92,7 +92,7 @@ returns-7 c =
     let b = a .before .before in
     let d = b .before .before in
     let n = counted (d .before .before) in
-    c .stray-filters .ensures
+    ap not (c .filters-in-range .ensures)
     ∙ sym
     (or-no _ (n .queued) ∙ or-no _ (n .remaining) ∙ or-no _ (n .decoded) ∙ or-no _ (sym (d .before .any-too-long .ensures) ∙ d .if4 .left)
     ∙ or-no _ (ap not (sym (b .before .is-rate .ensures)) ∙ b .if5 .left)
@@ -112,5 +112,5 @@ malformed-spec =
     returns-5
     is-fraction-requires
     returns-6
-    stray-filters-requires
+    filters-in-range-requires
     returns-7)

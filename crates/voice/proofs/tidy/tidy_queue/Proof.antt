@@ -7,10 +7,10 @@ use lib.ListN.{length}
 use native.Mathlib.Omega.{arith}
 use Rattle.lists.proofs.Fill.{Filling, filling-none, filling-more, filling-next, filling-all}
 use Rattle.voice.specs.declared.record.Entry.{Entry}
-use Rattle.voice.specs.Blank.{limit, blankEntry}
+use Rattle.voice.specs.Blank.{places, blankEntry}
 use Rattle.voice.specs.Set.{set-voice-queue}
 use Rattle.voice.specs.Tidy.{tidyUnder, tidyQueue}
-use Rattle.voice.proofs.Lengths.{queue-limit}
+use Rattle.voice.proofs.Lengths.{queue-places}
 use Rattle.voice.proofs.Tidied.{length-queue, queue-at}
 use Rattle.voice.proofs.tidy.tidy_queue.Statement.{statement}
 use Rattle.voice.proofs.tidy.tidy_queue.Tie as tie
@@ -19,10 +19,10 @@ abbrev Inv-loop : tie.InvT-loop
 Inv-loop v n q₀ i₀ q i = Filling (tidyQueue n q₀) q₀ q i
 
 abbrev μ-loop : tie.MeasureT-loop
-μ-loop v n q₀ i₀ q i = limit - i
+μ-loop v n q₀ i₀ q i = places - i
 
 same : (c : tie.Start Inv-loop μ-loop) → length (tidyQueue (c .args .v .queued) (c .args .v .queue)) ≡ length (c .args .v .queue)
-same c = length-queue (c .args .v .queued) (c .args .v .queue) ∙ sym (queue-limit (c .args .v) (c .good .0))
+same c = length-queue (c .args .v .queued) (c .args .v .queue) ∙ sym (queue-places (c .args .v) (c .good .0))
 
 loop-holds : tie.Need-loop-holds Inv-loop μ-loop
 loop-holds c = let v = c .before .args .v in filling-none (tidyQueue (v .queued) (v .queue)) (v .queue)
@@ -55,8 +55,8 @@ loop-again c =
     let s = c .before .before .before .before .before in
     let n = s .args .v .queued in
     let old = s .args .v .queue in
-    let h : l .i < limit = omega arith in
-    filling-more (tidyQueue n old) old (l .q) (l .i) (c .tidy-under .result) blankEntry (same s) (omega (arith, queue-limit (s .args .v) (s .good .0))) (l .inv)
+    let h : l .i < places = omega arith in
+    filling-more (tidyQueue n old) old (l .q) (l .i) (c .tidy-under .result) blankEntry (same s) (omega (arith, queue-places (s .args .v) (s .good .0))) (l .inv)
     (c .tidy-under .ensures
     ∙ ap (λ (e : Entry). tidyUnder (ltb (l .i) n) e) (filling-next (tidyQueue n old) old (l .q) (l .i) blankEntry (same s) (l .inv))
     ∙ sym (queue-at n old (l .i) blankEntry h))
@@ -67,7 +67,7 @@ returns c =
     let s = c .before .before .before in
     let v = s .args .v in
     ap (λ (q : List Entry). set-voice-queue q v)
-    (filling-all (tidyQueue (v .queued) (v .queue)) (v .queue) (l .q) (l .i) (same s) (omega (arith, queue-limit v (s .good .0))) (l .inv))
+    (filling-all (tidyQueue (v .queued) (v .queue)) (v .queue) (l .q) (l .i) (same s) (omega (arith, queue-places v (s .good .0))) (l .inv))
 
 pub tidy-queue-spec : {M : Type 1} → statement M
 tidy-queue-spec =
