@@ -1,8 +1,6 @@
-pub mod Formed
 pub mod Four
-pub mod Laws
-pub mod Numbers
+pub mod Listed
 pub mod Pushing
 pub mod Refused
 pub mod Room
-pub mod Settled
+pub mod Turns

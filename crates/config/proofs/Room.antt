@@ -1,72 +1,94 @@
--- What is left of an entry is no more than its length at every step before the lengthening: only RESET touches either, and makes both 0.
--- Assumes nothing.
+-- What is left of an entry is no more than its length, and no more entries are queued than before, at every step before the entries: only RESET,
+-- PARTIAL_RESET and the lengthening touch these. Assumes nothing.
 use mathlib.Core.Bool.{Bool, true, false, _||_, cond}
 use mathlib.Core.List.{List}
-use Prim.Native.Nat.{ℕ, _*_, _^_, _≤_}
+use Prim.Native.Nat.{ℕ, _*_, _^_, _-_, _≤_, zero-le}
+use native.Mathlib.Omega.{arith}
 use lib.Dec.{lit≤}
 use Rattle.voice.specs.Blank.{defaultVoice}
 use Rattle.voice.specs.declared.record.Voice.{Voice}
-use Rattle.config.specs.Dirty.{flag, FORMAT, «MONO_OR_STEREO», «ADPCM_COEFFICIENTS», «PARTIAL_RESET», ENABLE, INTERPOLATION, «RATE_MULTIPLIER», GAIN, «SYNC_COUNT», RESET, «EMBEDDED_BUFFER»}
-use Rattle.config.specs.Parsed.{playSteps, soundSteps}
-use Rattle.config.specs.Steps.{resetStep, partialResetStep, enableStep, syncStep, rateStep, interpolationStep, coefficientsStep, gainStep, filtersStep, formatStep, stereoStep}
+use Rattle.config.specs.Dirty.{flag, FORMAT, «MONO_OR_STEREO», «ADPCM_COEFFICIENTS», «PARTIAL_EMBEDDED_BUFFER», «PARTIAL_RESET», ENABLE, INTERPOLATION, «RATE_MULTIPLIER», GAIN, «SYNC_COUNT», RESET, «EMBEDDED_BUFFER»}
+use Rattle.config.specs.Laws.{EachKeeps}
+use Rattle.config.specs.Parsed.{inTurn, playSteps, soundSteps, lastSteps, settled}
+use Rattle.config.specs.Steps.{resetStep, partialResetStep, enableStep, syncStep, rateStep, interpolationStep, coefficientsStep, gainStep, filtersStep, formatStep, stereoStep, lengthenStep}
+use Rattle.config.proofs.Turns.{in-turn-keeps}
 
-record Room (v : Voice) : Type 0 where
+-- of a record that had n entries queued
+pub record Room (n : ℕ) (v : Voice) : Type 0 where
   pub fits : v .remaining ≤ v .length
+  pub queue : v .queued ≤ n
 
-where-room : (b : Bool) (w u : Voice) → Room w → Room u → Room (cond b w u)
-where-room true w u p q = p
-where-room false w u p q = q
+where-room : (n : ℕ) (b : Bool) (w u : Voice) → Room n w → Room n u → Room n (cond b w u)
+where-room n true w u p q = p
+where-room n false w u p q = q
 
-module _ (bytes : List ℕ) where
-  reset-room : (u : Voice) → Room u → Room (resetStep bytes u)
+no-longer : (n p : ℕ) → n - p ≤ n
+no-longer n p = omega arith
+
+module _ (bytes : List ℕ) (n : ℕ) where
+  reset-room : (u : Voice) → Room n u → Room n (resetStep bytes u)
   unfolding resetStep defaultVoice
-  reset-room u p = where-room (flag bytes RESET) _ u (record { fits = lit≤ tt }) p
+  reset-room u p = where-room n (flag bytes RESET) _ u (record { fits = lit≤ tt; queue = zero-le }) p
 
-  partial-room : (u : Voice) → Room u → Room (partialResetStep bytes u)
+  partial-room : (u : Voice) → Room n u → Room n (partialResetStep bytes u)
   unfolding partialResetStep
-  partial-room u p = where-room (flag bytes «PARTIAL_RESET») _ u (record { fits = p .fits }) p
+  partial-room u p = where-room n (flag bytes «PARTIAL_RESET») _ u (record { fits = p .fits; queue = zero-le }) p
 
-  enable-room : (u : Voice) → Room u → Room (enableStep bytes u)
+  enable-room : (u : Voice) → Room n u → Room n (enableStep bytes u)
   unfolding enableStep
-  enable-room u p = where-room (flag bytes ENABLE) _ u (record { fits = p .fits }) p
+  enable-room u p = where-room n (flag bytes ENABLE) _ u (record { fits = p .fits; queue = p .queue }) p
 
-  sync-room : (u : Voice) → Room u → Room (syncStep bytes u)
+  sync-room : (u : Voice) → Room n u → Room n (syncStep bytes u)
   unfolding syncStep
-  sync-room u p = where-room (flag bytes «SYNC_COUNT») _ u (record { fits = p .fits }) p
+  sync-room u p = where-room n (flag bytes «SYNC_COUNT») _ u (record { fits = p .fits; queue = p .queue }) p
 
-  rate-room : (u : Voice) → Room u → Room (rateStep bytes u)
+  rate-room : (u : Voice) → Room n u → Room n (rateStep bytes u)
   unfolding rateStep
-  rate-room u p = where-room (flag bytes «RATE_MULTIPLIER») _ u (record { fits = p .fits }) p
+  rate-room u p = where-room n (flag bytes «RATE_MULTIPLIER») _ u (record { fits = p .fits; queue = p .queue }) p
 
-  interpolation-room : (u : Voice) → Room u → Room (interpolationStep bytes u)
+  interpolation-room : (u : Voice) → Room n u → Room n (interpolationStep bytes u)
   unfolding interpolationStep
-  interpolation-room u p = where-room (flag bytes INTERPOLATION) _ u (record { fits = p .fits }) p
+  interpolation-room u p = where-room n (flag bytes INTERPOLATION) _ u (record { fits = p .fits; queue = p .queue }) p
 
-  coefficients-room : (cs : List ℕ) (u : Voice) → Room u → Room (coefficientsStep bytes cs u)
+  coefficients-room : (cs : List ℕ) (u : Voice) → Room n u → Room n (coefficientsStep bytes cs u)
   unfolding coefficientsStep
-  coefficients-room cs u p = where-room (flag bytes «ADPCM_COEFFICIENTS») _ u (record { fits = p .fits }) p
+  coefficients-room cs u p = where-room n (flag bytes «ADPCM_COEFFICIENTS») _ u (record { fits = p .fits; queue = p .queue }) p
 
-  gain-room : (k : ℕ) (u : Voice) → Room u → Room (gainStep bytes k u)
+  gain-room : (k : ℕ) (u : Voice) → Room n u → Room n (gainStep bytes k u)
   unfolding gainStep
-  gain-room k u p = where-room (flag bytes (GAIN * 2 ^ k)) _ u (record { fits = p .fits }) p
+  gain-room k u p = where-room n (flag bytes (GAIN * 2 ^ k)) _ u (record { fits = p .fits; queue = p .queue }) p
 
-  filters-room : (u : Voice) → Room u → Room (filtersStep bytes u)
+  filters-room : (u : Voice) → Room n u → Room n (filtersStep bytes u)
   unfolding filtersStep
-  filters-room u p = record { fits = p .fits }
+  filters-room u p = record { fits = p .fits; queue = p .queue }
 
-  format-room : (u : Voice) → Room u → Room (formatStep bytes u)
+  pub format-room : (u : Voice) → Room n u → Room n (formatStep bytes u)
   unfolding formatStep
-  format-room u p = where-room (flag bytes FORMAT || flag bytes «EMBEDDED_BUFFER») _ u (record { fits = p .fits }) p
+  format-room u p = where-room n (flag bytes FORMAT || flag bytes «EMBEDDED_BUFFER») _ u (record { fits = p .fits; queue = p .queue }) p
 
-  stereo-room : (u : Voice) → Room u → Room (stereoStep bytes u)
+  pub stereo-room : (u : Voice) → Room n u → Room n (stereoStep bytes u)
   unfolding stereoStep
-  stereo-room u p = where-room (flag bytes «MONO_OR_STEREO» || flag bytes «EMBEDDED_BUFFER») _ u (record { fits = p .fits }) p
+  stereo-room u p = where-room n (flag bytes «MONO_OR_STEREO» || flag bytes «EMBEDDED_BUFFER») _ u (record { fits = p .fits; queue = p .queue }) p
 
-  -- before the format, and before the lengthening
-  pub sound-room : (cs : List ℕ) (v : Voice) → v .remaining ≤ v .length → soundSteps bytes cs (playSteps bytes v) .remaining ≤ soundSteps bytes cs (playSteps bytes v) .length
-  sound-room cs v h =
-      filters-room _ (gain-room 2 _ (gain-room 1 _ (gain-room 0 _ (coefficients-room cs _
-      (interpolation-room _ (rate-room _ (sync-room _ (enable-room _ (partial-room _ (reset-room v (record { fits = h }))))))))))) .fits
+  lengthen-room : (u : Voice) → Room n u → Room n (lengthenStep bytes u)
+  unfolding lengthenStep
+  lengthen-room u p =
+      where-room n (flag bytes «PARTIAL_EMBEDDED_BUFFER») _ u (record { fits = no-longer _ (u .length - u .remaining); queue = p .queue }) p
 
-  pub format-fits : (v : Voice) → v .remaining ≤ v .length → stereoStep bytes (formatStep bytes v) .remaining ≤ stereoStep bytes (formatStep bytes v) .length
-  format-fits v h = stereo-room _ (format-room v (record { fits = h })) .fits
+  play-keeps : EachKeeps (Room n) (playSteps bytes)
+  play-keeps = (reset-room, (partial-room, (enable-room, (sync-room, (rate-room, (interpolation-room, tt))))))
+
+  sound-keeps : (cs : List ℕ) → EachKeeps (Room n) (soundSteps bytes cs)
+  sound-keeps cs = (coefficients-room cs, (gain-room 0, (gain-room 1, (gain-room 2, (filters-room, tt)))))
+
+  last-keeps : EachKeeps (Room n) (lastSteps bytes)
+  last-keeps = (format-room, (stereo-room, (lengthen-room, tt)))
+
+  -- before the format
+  pub sound-room : (cs : List ℕ) (v : Voice) → Room n v → Room n (inTurn (soundSteps bytes cs) (inTurn (playSteps bytes) v))
+  sound-room cs v p = in-turn-keeps (Room n) (soundSteps bytes cs) (sound-keeps cs) _ (in-turn-keeps (Room n) (playSteps bytes) play-keeps v p)
+
+  -- before the entries
+  pub settled-room : (cs : List ℕ) (v : Voice) → Room n v → Room n (settled bytes cs v)
+  unfolding settled
+  settled-room cs v p = in-turn-keeps (Room n) (lastSteps bytes) last-keeps _ (sound-room cs v p)

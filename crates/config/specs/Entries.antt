@@ -1,5 +1,5 @@
 -- The entries that a configuration would add to the queue, read with a format and a number of channels. Assumes nothing: these are definitions.
-use Prim.Native.Nat.{ℕ, _+_, _/_, _%_, _^_}
+use Prim.Native.Nat.{ℕ, zero, suc, _+_, _/_, _%_, _^_}
 use mathlib.Core.Bool.{Bool, true, false, not, _&&_, cond}
 use mathlib.Core.List.{List, [], _∷_, _++_}
 use lib.Dec.{eqb}
@@ -20,6 +20,10 @@ historyAt mark bytes at = cond mark (record { yn1 = signed16 (at16 bytes at); yn
 -- "PLAY_POSITION": read only if flagged
 abbrev pub positionIn : List ℕ → ℕ
 positionIn bytes = cond (flag bytes «PLAY_POSITION») (atDsp32 bytes (offsetOf configuration "PLAY_POSITION")) 0
+
+-- "slots 0 to 3"
+abbrev pub slotCount : ℕ
+slotCount = 4
 
 module _ (bytes : List ℕ) where
   -- bits 0 and 1 of FLAGS2: a history is given, the entry loops
@@ -70,15 +74,19 @@ module _ (bytes : List ℕ) (format : Format) (stereo : Bool) where
     «has_played» = false;
   }
 
-  abbrev pub slotEntries : ℕ → List Entry
-  slotEntries k = cond (slotAdds bytes k) (slotEntry k ∷ []) []
-
+  -- the embedded entry, where it is flagged: "an embedded entry of length 0 is not" skipped
   abbrev pub embeddedEntries : List Entry
   embeddedEntries = cond (flag bytes «EMBEDDED_BUFFER») (embedded ∷ []) []
 
-  abbrev pub slotsEntries : List Entry
-  slotsEntries = slotEntries 0 ++ (slotEntries 1 ++ (slotEntries 2 ++ slotEntries 3))
+  -- the entry of slot k, where the slot adds one
+  abbrev pub slotEntries : ℕ → List Entry
+  slotEntries k = cond (slotAdds bytes k) (slotEntry k ∷ []) []
+
+  -- the entries of the first k slots
+  abbrev pub slotsEntries : ℕ → List Entry
+  slotsEntries zero = []
+  slotsEntries (suc k) = slotsEntries k ++ slotEntries k
 
   -- "embedded entry, slots 0 to 3": "all entries the flags would add"
   unfoldable pub added : List Entry
-  added = embeddedEntries ++ cond (flag bytes «BUFFER_QUEUE») slotsEntries []
+  added = embeddedEntries ++ cond (flag bytes «BUFFER_QUEUE») (slotsEntries slotCount) []

@@ -1,6 +1,6 @@
-pub mod Counted
 pub mod Dirty
 pub mod Entries
+pub mod Inner
 pub mod Laws
 pub mod Parsed
 pub mod Refusal

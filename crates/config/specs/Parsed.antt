@@ -1,41 +1,62 @@
--- The configuration reader: the record, the bytes and the number after a voice's configuration. Assumes nothing: these are definitions.
+-- The configuration reader: the number, the record and the bytes after a voice's configuration. Assumes nothing: these are definitions.
 use Prim.Native.Nat.{ℕ}
 use mathlib.Core.Bool.{cond}
-use mathlib.Core.List.{List}
+use mathlib.Core.List.{List, [], _∷_, _++_}
 use lib.Dec.{eqb}
 use lib.ListN.{replicate}
 use Rattle.lists.specs.Splice.{splice}
 use Rattle.memory.specs.Fields.{offsetOf, configuration}
-use Rattle.voice.specs.Tidy.{tidied}
+use Rattle.voice.specs.declared.record.Entry.{Entry}
 use Rattle.voice.specs.declared.record.Voice.{Voice}
 use Rattle.config.specs.declared.parse.Configured.{Configured}
 use Rattle.config.specs.Dirty.{dirtyIn, flag, «BUFFER_QUEUE»}
-use Rattle.config.specs.Refusal.{refusal, toAdd}
+use Rattle.config.specs.Entries.{added}
+use Rattle.config.specs.Refusal.{refusalOf}
 use Rattle.config.specs.Steps.{resetStep, partialResetStep, enableStep, syncStep, rateStep, interpolationStep, coefficientsStep, gainStep, filtersStep, formatStep, stereoStep, lengthenStep, pushedAll}
 
--- the steps before the entries, in document 01's order, in three runs: what plays, how it sounds, and what the entries will be
-abbrev pub playSteps : List ℕ → Voice → Voice
-playSteps bytes v = interpolationStep bytes (rateStep bytes (syncStep bytes (enableStep bytes (partialResetStep bytes (resetStep bytes v)))))
+-- steps taken in turn, the first one first
+abbrev pub inTurn : List (Voice → Voice) → Voice → Voice
+inTurn [] v = v
+inTurn (step ∷ steps) v = inTurn steps (step v)
 
-abbrev pub soundSteps : List ℕ → List ℕ → Voice → Voice
-soundSteps bytes coefficients v =
-    filtersStep bytes (gainStep bytes 2 (gainStep bytes 1 (gainStep bytes 0 (coefficientsStep bytes coefficients v))))
+-- "Order: reset, partial reset, enable, sync, rate, interpolation, coefficients, gains, filters, format, position, lengthening": the position is read
+-- with the embedded entry, which alone has one. In three runs: what plays, how it sounds, and what the entries will be.
+module _ (bytes : List ℕ) where
+  abbrev pub playSteps : List (Voice → Voice)
+  playSteps = resetStep bytes ∷ partialResetStep bytes ∷ enableStep bytes ∷ syncStep bytes ∷ rateStep bytes ∷ interpolationStep bytes ∷ []
 
-abbrev pub lastSteps : List ℕ → Voice → Voice
-lastSteps bytes v = lengthenStep bytes (stereoStep bytes (formatStep bytes v))
+  abbrev pub soundSteps : List ℕ → List (Voice → Voice)
+  soundSteps coefficients =
+      coefficientsStep bytes coefficients ∷ gainStep bytes 0 ∷ gainStep bytes 1 ∷ gainStep bytes 2 ∷ filtersStep bytes ∷ []
+
+  abbrev pub lastSteps : List (Voice → Voice)
+  lastSteps = formatStep bytes ∷ stereoStep bytes ∷ lengthenStep bytes ∷ []
+
+  abbrev pub steps : List ℕ → List (Voice → Voice)
+  steps coefficients = playSteps ++ (soundSteps coefficients ++ lastSteps)
 
 module _ (bytes coefficients : List ℕ) (v : Voice) where
-  abbrev pub settled : Voice
-  settled = lastSteps bytes (soundSteps bytes coefficients (playSteps bytes v))
+  -- the record after the steps that come before the entries
+  unfoldable pub settled : Voice
+  settled = inTurn (steps bytes coefficients) v
 
-  -- the record after: the entries queued, and what is off or past the count blank
+  -- "all entries the flags would add", with the format and the channels that the steps leave
+  unfoldable pub toAdd : List Entry
+  toAdd = added bytes (settled .kinds .format) (settled .stereo)
+
+  -- "The count for 20 starts after clearing by RESET or PARTIAL_RESET": those are steps
+  unfoldable pub refusal : ℕ → ℕ
+  refusal L = refusalOf (settled .queued) toAdd L
+
+  -- the record after a configuration that is not refused
   unfoldable pub parsed : Voice
-  parsed = tidied (pushedAll (toAdd bytes v) settled)
+  parsed = pushedAll toAdd settled
 
-  -- what a voice's configuration comes to; refused, "that voice untouched"
+  -- What a voice's configuration comes to: "A zero dirty word does nothing"; refused, "that voice untouched"; else the record is parsed.
   unfoldable pub configured : ℕ → Configured
   configured L =
-      record { number = refusal bytes v L; voice = cond (eqb (refusal bytes v L) 0) parsed v }
+      cond (eqb (dirtyIn bytes) 0) (record { number = 0; voice = v })
+      (cond (eqb (refusal L) 0) (record { number = 0; voice = parsed }) (record { number = refusal L; voice = v }))
 
 -- "the slot mask only if BUFFER_QUEUE was set"
 unfoldable pub slotsCleared : List ℕ → List ℕ
@@ -45,6 +66,7 @@ slotsCleared bytes = cond (flag bytes «BUFFER_QUEUE») (splice bytes (offsetOf 
 unfoldable pub cleared : List ℕ → List ℕ
 cleared bytes = splice (slotsCleared bytes) (offsetOf configuration "DIRTY") (replicate 4 0)
 
--- the bytes after; refused, or with a zero dirty word, they stay
-unfoldable pub bytesAfter : List ℕ → Voice → ℕ → List ℕ
-bytesAfter bytes v L = cond (eqb (refusal bytes v L) 0) (cond (eqb (dirtyIn bytes) 0) bytes (cleared bytes)) bytes
+-- the configuration's bytes after; refused, or with a zero dirty word, they stay
+unfoldable pub bytesAfter : List ℕ → List ℕ → Voice → ℕ → List ℕ
+bytesAfter bytes coefficients v L =
+    cond (eqb (dirtyIn bytes) 0) bytes (cond (eqb (refusal bytes coefficients v L) 0) (cleared bytes) bytes)

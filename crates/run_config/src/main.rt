@@ -5,6 +5,15 @@ ghost use mathlib.Core.Path.{_≡_};
 ghost use Prim.Native.Nat.{_≤_};
 ghost use lib.ListN.{length};
 
+// The record as serving leaves it: a refused voice is untouched, of a served one what is off or past the count is blank.
+fn left(done: config::parse::Configured) -> voice::record::Voice {
+    let after = done.voice;
+    if done.number == 0 {
+        return voice::tidy::tidy(after);
+    }
+    after
+}
+
 // Reads the configuration into the record's bytes, both in their places.
 fn serve(lane: usize, bytes: &mut [u8], configuration: &mut [u8], coefficients: &[u8]) -> u8
     requires { ⌜ (lane ≤ 65536) × (length (now bytes) ≡ 2456) × (length (now configuration) ≡ 192) × (length (now coefficients) ≡ 32) ⌝ }
@@ -14,9 +23,10 @@ fn serve(lane: usize, bytes: &mut [u8], configuration: &mut [u8], coefficients: 
         return 7;
     }
     let done = config::parse::configure(v, configuration, coefficients, lane);
-    let after = done.voice;
+    let number = done.number;
+    let after = left(done);
     record_bytes::put_record(after, bytes);
-    done.number
+    number
 }
 
 // Serves one job, and says whether to go on.

@@ -24,8 +24,11 @@ configure-requires c κs =
     let w = not-malformed-formed (s .args .lane) v (sym (c .before .before .malformed .ensures) ∙ c .before .if1 .left) in
     (search needs, (search needs, (w .queued, w .remaining)))
 
+left-requires : tie.Need-left-requires
+left-requires c κs = tt
+
 put-record-requires : tie.Need-put-record-requires
-put-record-requires c κs = search needs
+put-record-requires c κs = c .before .before .before .before .before .before .before .before .before .before .before .before .before .pre .1
 
 same-length-2 : tie.Need-same-length-2
 same-length-2 c = search needs
@@ -45,6 +48,7 @@ serve-spec =
     same-length
     returns
     configure-requires
+    left-requires
     put-record-requires
     same-length-2
     same-length-3

@@ -1,9 +1,10 @@
 -- `config::parse::last_steps` meets its contract: the steps' equations, one put into the next. Assumes nothing.
 use mathlib.Core.Path.{sym, ap, _∙_, subst}
 use Prim.Native.Nat.{_≤_}
+use native.Mathlib.Nat.{le-refl}
 use Rattle.voice.specs.declared.record.Voice.{Voice}
 use Rattle.config.specs.Steps.{stereoStep, lengthenStep}
-use Rattle.config.proofs.Room.{format-fits}
+use Rattle.config.proofs.Room.{Room, format-room, stereo-room}
 use borrow.Author.Needs.{needs}
 use Rattle.config.proofs.parse.last_steps.Statement.{statement}
 use Rattle.config.proofs.parse.last_steps.Tie as tie
@@ -19,7 +20,9 @@ lengthen-step-requires c κs =
     let f = c .before in
     let s = f .before .before in
     let e = c .stereo-step .ensures ∙ ap (stereoStep (s .args .bytes .now)) (f .format-step .ensures) in
-    (s .pre .0, subst (λ (w : Voice). w .remaining ≤ w .length) (sym e) (format-fits (s .args .bytes .now) (s .args .v) (s .pre .1)))
+    let here : Room (s .args .v .queued) (s .args .v) = record { fits = s .pre .1; queue = le-refl (s .args .v .queued) } in
+    (s .pre .0, subst (λ (w : Voice). w .remaining ≤ w .length) (sym e) (
+    stereo-room (s .args .bytes .now) (s .args .v .queued) _ (format-room (s .args .bytes .now) (s .args .v .queued) (s .args .v) here) .fits))
 
 returns : tie.Need-returns
 returns c =

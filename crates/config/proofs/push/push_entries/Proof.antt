@@ -1,66 +1,80 @@
--- `config::push::push_entries` meets its contract: the embedded entry is queued first, then the slots' ones with the same format and channels. Assumes nothing.
-use mathlib.Core.Path.{_≡_, sym, ap, _∙_, subst}
-use mathlib.Core.List.{List, _++_, append-nil}
-use Prim.Native.Nat.{ℕ, _+_, _≤_}
+-- `config::push::push_entries` meets its contract. The invariant: the first `i` entries are queued. Assumes nothing.
+use mathlib.Core.Path.{_≡_, refl, sym, ap, _∙_}
+use mathlib.Core.List.{List, [], _∷_, _++_}
+use Prim.Native.Nat.{ℕ, _+_, _-_, _≤_, _<_}
 use native.Mathlib.Omega.{arith}
-use Rattle.lists.proofs.Bools.{cond-yes, cond-no}
+use lib.ListN.{length, take, getD, length-take}
+use Rattle.voice.specs.Blank.{places, blankEntry}
 use Rattle.voice.specs.declared.record.Entry.{Entry}
 use Rattle.voice.specs.declared.record.Voice.{Voice}
-use Rattle.config.specs.Counted.{embeddedCount, queueCount, addedCount}
-use Rattle.config.specs.Entries.{embeddedEntries, slotsEntries, added}
-use Rattle.config.specs.Steps.{pushedAll}
-use Rattle.config.proofs.Numbers.{added-count, queue-all}
-use Rattle.config.proofs.Pushing.{slots-after, embedded-queued}
-use borrow.Author.Needs.{needs}
+use Rattle.config.specs.Inner.{listedIn}
+use Rattle.config.specs.Steps.{pushed, pushedAll}
+use Rattle.config.proofs.Listed.{entries-5, first-more}
+use Rattle.config.proofs.Pushing.{pushed-none, pushed-last, pushed-queued}
 use Rattle.config.proofs.push.push_entries.Statement.{statement}
 use Rattle.config.proofs.push.push_entries.Tie as tie
 
-fits : (s : tie.Start) → s .args .v .queued + (embeddedCount (s .args .bytes .now) + queueCount (s .args .bytes .now)) ≤ 64
-unfolding addedCount
-fits s =
-    let v = s .args .v in
-    subst (λ (n : ℕ). v .queued + n ≤ 64) (added-count (s .args .bytes .now) (v .kinds .format) (v .stereo)) (s .pre .1)
+abbrev Inv-loop : tie.InvT-loop
+Inv-loop a n w₀ i₀ w i = (i ≤ n) × (w ≡ pushedAll (take i (a .entries)) w₀)
 
-push-embedded-requires : tie.Need-push-embedded-requires
-push-embedded-requires c κs = (c .before .pre .0, omega (arith, fits (c .before)))
+abbrev μ-loop : tie.MeasureT-loop
+μ-loop a n w₀ i₀ w i = n - i
 
-flag-requires : tie.Need-flag-requires
-flag-requires c κs = search needs
+loop-holds : tie.Need-loop-holds Inv-loop μ-loop
+loop-holds c = (omega arith, sym (pushed-none _))
 
-push-slots-requires : tie.Need-push-slots-requires
-push-slots-requires c κs =
-    let e = c .before .before in
-    let s = e .before .before in
-    let bytes = s .args .bytes .now in
-    let after : e .push-embedded .result .queued ≡ s .args .v .queued + embeddedCount bytes =
-    ap (λ (u : Voice). u .queued) (e .push-embedded .ensures) ∙ embedded-queued bytes (s .args .v) in
-    (s .pre .0, omega (arith, fits s, after, queue-all bytes (sym (c .before .flag .ensures) ∙ c .if1 .taken)))
+mul-e : tie.Need-mul-e Inv-loop μ-loop
+mul-e c = omega arith
 
-returns : tie.Need-returns
-unfolding added
+element-copy-out-e : tie.Need-element-copy-out-e Inv-loop μ-loop
+element-copy-out-e c = omega arith
+
+push-requires : tie.Need-push-requires Inv-loop μ-loop
+push-requires c κs =
+    let l = c .before .before .loop in
+    let s = c .before .before .before in
+    let n = ap (λ (w : Voice). w .queued) (l .inv .1) ∙ pushed-queued (take (l .i) (s .args .t2 .entries)) (s .args .v) in
+    omega (arith, n, length-take (l .i) (s .args .t2 .entries), s .pre .1)
+
+add-i : tie.Need-add-i Inv-loop μ-loop
+add-i c = omega arith
+
+loop-less : tie.Need-loop-less Inv-loop μ-loop
+loop-less c = omega arith
+
+loop-again : tie.Need-loop-again Inv-loop μ-loop
+unfolding blankEntry
+loop-again c =
+    let l = c .before .before .before .loop in
+    let s = c .before .before .before .before in
+    let es = s .args .t2 .entries in
+    let inside : l .i < length es = omega (arith, entries-5 (s .args .t2) (s .good .1 .0), s .pre .0) in (
+      omega arith,
+      c .push .ensures
+          ∙ ap (pushed (getD es (l .i) blankEntry)) (l .inv .1)
+          ∙ sym (pushed-last (take (l .i) es) (getD es (l .i) blankEntry) (s .args .v))
+          ∙ ap (λ (x : List Entry). pushedAll x (s .args .v)) (sym (first-more es (l .i) blankEntry inside)),
+    )
+
+returns : tie.Need-returns Inv-loop μ-loop
+unfolding listedIn
 returns c =
-    let t = c .before in
-    let e = t .before .before in
-    let s = e .before .before in
-    let bytes = s .args .bytes .now in
-    let v = s .args .v in
-    let first = embeddedEntries bytes (v .kinds .format) (v .stereo) in
-    c .push-slots .ensures
-    ∙ ap (λ (u : Voice). pushedAll (slotsEntries bytes (u .kinds .format) (u .stereo)) u) (e .push-embedded .ensures)
-    ∙ slots-after bytes v first
-    ∙ ap (λ (es : List Entry). pushedAll (first ++ es) v) (sym (cond-yes _ _ (sym (t .before .flag .ensures) ∙ t .if1 .taken)))
-
-returns-2 : tie.Need-returns-2
-unfolding added
-returns-2 c =
-    let e = c .before .before in
-    let s = e .before .before in
-    let v = s .args .v in
-    let first = embeddedEntries (s .args .bytes .now) (v .kinds .format) (v .stereo) in
-    e .push-embedded .ensures
-    ∙ ap (λ (es : List Entry). pushedAll es v) (sym (append-nil first))
-    ∙ ap (λ (es : List Entry). pushedAll (first ++ es) v) (sym (cond-no _ _ (sym (c .before .flag .ensures) ∙ c .if1 .left)))
+    let l = c .before .loop in
+    let a = c .before .before .args in
+    let e : l .i ≡ a .t2 .count = omega arith in
+    l .inv .1 ∙ ap (λ (n : ℕ). pushedAll (take n (a .t2 .entries)) (a .v)) e
 
 pub push-entries-spec : {M : Type 1} → statement M
 push-entries-spec =
-    tie.close (tie.spec push-embedded-requires flag-requires push-slots-requires returns returns-2)
+    tie.close
+    (tie.spec
+    Inv-loop
+    μ-loop
+    loop-holds
+    mul-e
+    element-copy-out-e
+    push-requires
+    add-i
+    loop-less
+    loop-again
+    returns)
