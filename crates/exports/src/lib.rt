@@ -61,6 +61,24 @@ pub extern "C" fn yinzhor_present(window: &[u8], base: u32, address: u32, count:
     memory::window::present(window, base, address, count)
 }
 
+// Copies the part that the look-up hands back to the front of `out`, and answers how long it is.
+#[no_mangle]
+pub extern "C" fn yinzhor_physical(
+    window: &[u8],
+    base: u32,
+    address: u32,
+    count: u32,
+    out: &mut [u8],
+) -> usize {
+    let part = memory::window::physical(window, base, address, count);
+    let n = part.len();
+    if n > out.len() {
+        return n;
+    }
+    memory::little::copy(part, &mut out[..n]);
+    n
+}
+
 #[no_mangle]
 pub extern "C" fn yinzhor_decode_adpcm(
     data: &[u8],
@@ -315,4 +333,37 @@ pub extern "C" fn yinzhor_filter(
     put_simple(first, simple);
     put_biquad(second, biquad);
     true
+}
+
+// Reads the record in the bytes and writes it back, or answers 7 where it is malformed: what yinzhor_configure does besides configuring.
+#[no_mangle]
+pub extern "C" fn yinzhor_record(lane: usize, bytes: &mut [u8]) -> u8
+    requires { ⌜ length (now bytes) ≡ 2456 ⌝ }
+{
+    let v = record_bytes::record_of(bytes);
+    if voice::malformed::malformed(v, lane) {
+        return 7;
+    }
+    record_bytes::put_record(v, bytes);
+    0
+}
+
+// Serves a voice's configuration, the record in bytes, or answers 7 where that is malformed.
+#[no_mangle]
+pub extern "C" fn yinzhor_configure(
+    lane: usize,
+    bytes: &mut [u8],
+    configuration: &mut [u8],
+    coefficients: &[u8],
+) -> u8
+    requires { ⌜ (length (now bytes) ≡ 2456) × (length (now configuration) ≡ 192) × (length (now coefficients) ≡ 32) ⌝ }
+{
+    let v = record_bytes::record_of(bytes);
+    if voice::malformed::malformed(v, lane) {
+        return 7;
+    }
+    let done = config::parse::configure(v, configuration, coefficients, lane);
+    let after = done.voice;
+    record_bytes::put_record(after, bytes);
+    done.number
 }

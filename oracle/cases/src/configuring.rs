@@ -299,13 +299,24 @@ impl Job {
         if number != 0 {
             return [&head[..], &self.record, &self.configuration].concat();
         }
-        let mut memory = Memory {
+        let (mut voice, mut memory) = self.oracle();
+        Job::parse(&mut voice, &mut memory);
+        [&head[..], &record_of(&voice), &memory.regions[0][..CONFIGURATION]].concat()
+    }
+
+    /// the voice, and the configuration with the coefficients behind it in
+    /// region 0.
+    pub fn oracle(&self) -> (ProbeVoice, Memory) {
+        let memory = Memory {
             regions: [[&self.configuration[..], &self.coefficients].concat(), Vec::new()],
             ..Memory::default()
         };
-        let mut voice = voice_of(&self.record);
-        probe_parse_config(&mut voice, &mut memory, 0, CONFIGURATION as u32);
-        [&head[..], &record_of(&voice), &memory.regions[0][..CONFIGURATION]].concat()
+        (voice_of(&self.record), memory)
+    }
+
+    /// the source's reader on these.
+    pub fn parse(voice: &mut ProbeVoice, memory: &mut Memory) {
+        probe_parse_config(voice, memory, 0, CONFIGURATION as u32);
     }
 }
 

@@ -5,6 +5,7 @@ use std::hint::black_box;
 use std::time::{Duration, Instant};
 
 use cases::{Decode, Mixing, Random};
+use cases::configuring::{FLAGS, Job};
 use zakuro_core::services::dsp_voices::probe_decode;
 
 use crate::port;
@@ -21,6 +22,9 @@ pub fn run(what: &str, side: &str) -> Result<(), String> {
         "decode" => decode(port),
         "mix" => mix(port, [1.0, 0.5, 0.25], true),
         "mix-no-aux" => mix(port, [1.0, 0.0, 0.0], false),
+        "configure-nothing" => configure(port, 0),
+        "configure-all" => configure(port, FLAGS.iter().map(|bit| 1 << bit).sum()),
+        "record" => record(),
         _ => return Err(format!("not measured: {what}")),
     };
     println!("{many} {}", time.as_nanos());
@@ -73,4 +77,48 @@ fn mix(port: bool, volume: [f32; 3], aux: bool) -> (usize, Duration) {
         }
     }
     (TIMES, start.elapsed())
+}
+
+/// a configuration with this dirty word, PCM16 entries of length 1 in every
+/// slot, over the default record. the port's side takes the record in bytes
+/// and writes it back: `record` is that alone.
+fn configure(port: bool, word: u32) -> (usize, Duration) {
+    let job = configuration(word);
+    let (mut voice, mut memory) = job.oracle();
+    let configured = memory.regions[0].clone();
+    let start = Instant::now();
+    for _ in 0..CONFIGURED {
+        if port {
+            let (mut record, mut configuration) = (job.record.clone(), job.configuration.clone());
+            assert_eq!(port::configure(job.lane, &mut record, &mut configuration, &job.coefficients), 0);
+            black_box((record, configuration));
+        } else {
+            memory.regions[0].copy_from_slice(&configured);
+            Job::parse(&mut voice, &mut memory);
+            black_box(&voice);
+        }
+    }
+    (CONFIGURED, start.elapsed())
+}
+
+fn record() -> (usize, Duration) {
+    let job = configuration(0);
+    let start = Instant::now();
+    for _ in 0..CONFIGURED {
+        let mut record = job.record.clone();
+        assert_eq!(port::record(job.lane, &mut record), 0);
+        black_box(record);
+    }
+    (CONFIGURED, start.elapsed())
+}
+
+const CONFIGURED: usize = 5000;
+
+fn configuration(word: u32) -> Job {
+    let mut job = Job::plain(&mut Random::new(1), 100);
+    job.format(1);
+    job.embedded(1);
+    job.slots(0xF, [1; 4]);
+    job.flag(word);
+    job
 }

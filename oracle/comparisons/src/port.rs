@@ -3,6 +3,7 @@
 //! numbers alone are called as they are.
 
 use cases::Mixed;
+use cases::configuring::{COEFFICIENTS, CONFIGURATION, RECORD};
 
 unsafe extern "C" {
     fn yinzhor_current_region(first: u16, second: u16) -> u32;
@@ -11,6 +12,15 @@ unsafe extern "C" {
     fn yinzhor_layout_number(first: usize, second: usize, offsets: *const u32, len: usize) -> u8;
     fn yinzhor_window_number(base: u32, length: usize) -> u8;
     fn yinzhor_present(window: *const u8, len: usize, base: u32, address: u32, count: u32) -> bool;
+    fn yinzhor_physical(
+        window: *const u8,
+        len: usize,
+        base: u32,
+        address: u32,
+        count: u32,
+        out: *mut u8,
+        out_len: usize,
+    ) -> usize;
     fn yinzhor_decode_adpcm(
         data: *const u8,
         data_len: usize,
@@ -45,6 +55,17 @@ unsafe extern "C" {
         samples: *mut i16,
         samples_len: usize,
     ) -> bool;
+
+    fn yinzhor_record(lane: usize, record: *mut u8, record_len: usize) -> u8;
+    fn yinzhor_configure(
+        lane: usize,
+        record: *mut u8,
+        record_len: usize,
+        configuration: *mut u8,
+        configuration_len: usize,
+        coefficients: *const u8,
+        coefficients_len: usize,
+    ) -> u8;
 
     fn yinzhor_mixer_tick(
         first: *mut u8,
@@ -92,6 +113,18 @@ pub fn window_number(base: u32, length: usize) -> u8 {
 pub fn present(window: &[u8], base: u32, address: u32, count: u32) -> bool {
     assert!(base as u64 + window.len() as u64 <= 1 << 32);
     unsafe { yinzhor_present(window.as_ptr(), window.len(), base, address, count) }
+}
+
+/// the part that the look-up hands back, copied; no longer than the window.
+pub fn physical(window: &[u8], base: u32, address: u32, count: u32) -> Vec<u8> {
+    assert!(base as u64 + window.len() as u64 <= 1 << 32);
+    let mut out = vec![0; window.len()];
+    let length = unsafe {
+        yinzhor_physical(window.as_ptr(), window.len(), base, address, count, out.as_mut_ptr(), out.len())
+    };
+    assert!(length <= out.len(), "a part longer than the window");
+    out.truncate(length);
+    out
 }
 
 pub fn decode_adpcm(
@@ -161,4 +194,27 @@ pub fn filter(marks: &[u8; 2], simple: &mut [i32; 4], biquad: &mut [i32; 13], sa
         )
     };
     assert!(served, "filters out of range");
+}
+
+/// serves a voice's configuration, its record in bytes, with a lane of so
+/// many samples.
+pub fn configure(lane: u32, record: &mut [u8], configuration: &mut [u8], coefficients: &[u8]) -> u8 {
+    assert_eq!((record.len(), configuration.len(), coefficients.len()), (RECORD, CONFIGURATION, COEFFICIENTS));
+    unsafe {
+        yinzhor_configure(
+            lane as usize,
+            record.as_mut_ptr(),
+            record.len(),
+            configuration.as_mut_ptr(),
+            configuration.len(),
+            coefficients.as_ptr(),
+            coefficients.len(),
+        )
+    }
+}
+
+/// what `configure` does besides configuring.
+pub fn record(lane: u32, record: &mut [u8]) -> u8 {
+    assert_eq!(record.len(), RECORD);
+    unsafe { yinzhor_record(lane as usize, record.as_mut_ptr(), record.len()) }
 }

@@ -1,4 +1,4 @@
-//! the window: its number, and whether a look-up is present. the oracle of
+//! the window: its number, whether a look-up is present, and the part it hands back. the oracle of
 //! the number is document 01's table, which the source has no part in.
 
 use cases::Random;
@@ -67,6 +67,12 @@ fn look_up(memory: &mut Memory, address: u32, count: u32) -> Result<(), String> 
     let inside = |at: u64| at.checked_sub(*base as u64).is_some_and(|at| at < bytes.len() as u64);
     let each = (0..count as u64).all(|i| inside(address as u64 + i));
     same!(each, port, "{count} bytes at {address:#010X}, the window has {} from {base:#010X}", bytes.len());
+    // the part itself, which is empty where it is absent
+    let part = port::physical(bytes, *base, address, count);
+    let bytes = bytes.clone();
+    let base = *base;
+    let handed = memory.physical(address, count).map_or(Vec::new(), |part| part.to_vec());
+    same!(handed, part, "{count} bytes at {address:#010X}, the window has {bytes:02X?} from {base:#010X}");
     Ok(())
 }
 
