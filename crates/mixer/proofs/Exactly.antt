@@ -9,13 +9,14 @@ use lib.Dec.{eqb, ltb, lit≤, lit<}
 use lib.IntN.{ℤ}
 use lib.ListN.{length}
 use borrow.Author.Tests.{eqb-true, eqb-false, ltb-true, ltb-false}
-use Rattle.memory.specs.Places.{sizes, placesOf, inside, apart, layoutNumber, Sound}
+use Rattle.memory.specs.Exactly.{Exactly}
+use Rattle.memory.specs.Places.{regionMost, placesOf, inside, apart, layoutNumber}
 use Rattle.memory.specs.declared.layout.Layout.{Layout}
 use Rattle.memory.proofs.Places as places
 use Rattle.mixer.specs.declared.state.Mixer.{Mixer}
 use Rattle.mixer.specs.Sizes.{mixesSize}
 use Rattle.mixer.specs.Tick.{Outcome, numberOf, accepted, refused, ticked}
-use Rattle.mixer.specs.Exactly.{Gives, Lowest, ExactlyIf, RefusedLeavesAll}
+use Rattle.mixer.specs.Exactly.{Gives, NoneOfThree, ExactlyIf, RefusedLeavesAll}
 use Rattle.mixer.proofs.Outcomes.{by-layout, by-mixes, by-region, none, refusal}
 
 -- ---- the chain of tests, by their outcomes: n is the layout's number, a that it is 0, b that the mixes are right, c that the region number is not
@@ -62,8 +63,8 @@ module _ (l : Layout) (m : Mixer) (mixes : List ℤ) (which : ℕ) (first second
 
   few : layout ≤ 3
   few =
-      at-most-3 (not (eqb (length first) (length second)) || ltb 65536 (length first)) (not (inside (length first) (placesOf l) sizes))
-      (not (apart (placesOf l) sizes))
+      at-most-3 (not (eqb (length first) (length second)) || ltb regionMost (length first)) (not (inside (length first) (placesOf l)))
+      (not (apart (placesOf l)))
 
   -- the call's number is the chain's
   number-is : Gives l m mixes which first second number
@@ -75,41 +76,41 @@ module _ (l : Layout) (m : Mixer) (mixes : List ℤ) (which : ℕ) (first second
       go true h = sym (h refl)
       go false h = refl
 
-  by-chain : (k : ℕ) → 0 < k → k ≤ 3 → Gives l m mixes which first second k → Lowest l m mixes which first second k
+  by-chain : (k : ℕ) → 0 < k → k ≤ 3 → Gives l m mixes which first second k → layout ≡ k
   by-chain k p q e = gives-layout (eqb layout 0) (eqb (length mixes) mixesSize) (ltb 1 which) layout k p q (sym number-is ∙ e)
 
-  chained : (k : ℕ) → 0 < k → Lowest l m mixes which first second k → Gives l m mixes which first second k
+  chained : (k : ℕ) → 0 < k → layout ≡ k → Gives l m mixes which first second k
   chained k p e = number-is ∙ by-layout (length first) (length second) l (length mixes) which (λ z. omega arith) ∙ e
 
-  sound : Sound (length first) (length second) l → layout ≡ 0
-  sound = places.accepts (length first) (length second) l
+  exactly : Exactly (length first) (length second) l
+  exactly = places.exactly (length first) (length second) l
 
-  yes-layout : eqb layout 0 ≡ true → Sound (length first) (length second) l
-  yes-layout e = places.accepted (length first) (length second) l (eqb-true layout 0 e)
+  yes-layout : eqb layout 0 ≡ true → NoneOfThree l m mixes which first second
+  yes-layout e = exactly .none .0 (eqb-true layout 0 e)
 
-  only-zero : number ≡ 0 → Sound (length first) (length second) l × (length mixes ≡ mixesSize) × (which ≤ 1)
+  only-zero : number ≡ 0 → NoneOfThree l m mixes which first second × (length mixes ≡ mixesSize) × (which ≤ 1)
   only-zero e =
       let t = gives-zero (eqb layout 0) (eqb (length mixes) mixesSize) (ltb 1 which) layout (eqb-false layout 0) e in
       (yes-layout (t .0), eqb-true (length mixes) mixesSize (t .1), ltb-false 1 which (t .2))
 
-  only-six : number ≡ 6 → Sound (length first) (length second) l × (length mixes ≡ mixesSize → ⊥)
+  only-six : number ≡ 6 → NoneOfThree l m mixes which first second × (length mixes ≡ mixesSize → ⊥)
   only-six e =
       let t = gives-six (eqb layout 0) (eqb (length mixes) mixesSize) (ltb 1 which) layout few e in
       (yes-layout (t .0), eqb-false (length mixes) mixesSize (t .1))
 
-  only-eight : number ≡ 8 → Sound (length first) (length second) l × (length mixes ≡ mixesSize) × (1 < which)
+  only-eight : number ≡ 8 → NoneOfThree l m mixes which first second × (length mixes ≡ mixesSize) × (1 < which)
   only-eight e =
       let t = gives-eight (eqb layout 0) (eqb (length mixes) mixesSize) (ltb 1 which) layout few e in
       (yes-layout (t .0), eqb-true (length mixes) mixesSize (t .1), ltb-true 1 which (t .2))
 
   pub exactly-if : ExactlyIf l m mixes which first second
   exactly-if = record {
-    zero = (λ e. only-zero (sym number-is ∙ e), λ s. number-is ∙ none (length first) (length second) l (length mixes) which (sound (s .0)) (s .1) (s .2));
-    one = (by-chain 1 (lit< tt) (lit≤ tt), chained 1 (lit< tt));
-    two = (by-chain 2 (lit< tt) (lit≤ tt), chained 2 (lit< tt));
-    three = (by-chain 3 (lit< tt) (lit≤ tt), chained 3 (lit< tt));
-    six = (λ e. only-six (sym number-is ∙ e), λ s. number-is ∙ by-mixes (length first) (length second) l (length mixes) which (sound (s .0)) (s .1));
-    eight = (λ e. only-eight (sym number-is ∙ e), λ s. number-is ∙ by-region (length first) (length second) l (length mixes) which (sound (s .0)) (s .1) (s .2));
+    zero = (λ e. only-zero (sym number-is ∙ e), λ s. number-is ∙ none (length first) (length second) l (length mixes) which (exactly .none .1 (s .0)) (s .1) (s .2));
+    one = (λ e. exactly .one .0 (by-chain 1 (lit< tt) (lit≤ tt) e), λ s. chained 1 (lit< tt) (exactly .one .1 s));
+    two = (λ e. exactly .two .0 (by-chain 2 (lit< tt) (lit≤ tt) e), λ s. chained 2 (lit< tt) (exactly .two .1 s));
+    three = (λ e. exactly .three .0 (by-chain 3 (lit< tt) (lit≤ tt) e), λ s. chained 3 (lit< tt) (exactly .three .1 s));
+    six = (λ e. only-six (sym number-is ∙ e), λ s. number-is ∙ by-mixes (length first) (length second) l (length mixes) which (exactly .none .1 (s .0)) (s .1));
+    eight = (λ e. only-eight (sym number-is ∙ e), λ s. number-is ∙ by-region (length first) (length second) l (length mixes) which (exactly .none .1 (s .0)) (s .1) (s .2));
   }
 
   pub refused-leaves-all : RefusedLeavesAll l m mixes which first second

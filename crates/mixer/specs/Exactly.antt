@@ -6,7 +6,7 @@ use mathlib.Core.Logic.{_↔_, _≢_}
 use mathlib.Core.List.{List}
 use lib.IntN.{ℤ}
 use lib.ListN.{length}
-use Rattle.memory.specs.Places.{layoutNumber, Sound}
+use Rattle.memory.specs.Exactly.{LengthsWrong, EndsPast, ShareByte}
 use Rattle.memory.specs.declared.layout.Layout.{Layout}
 use Rattle.mixer.specs.Sizes.{mixesSize}
 use Rattle.mixer.specs.Tick.{Outcome, silence, ticked}
@@ -20,21 +20,26 @@ module _ (l : Layout) (m : Mixer) (mixes : List ℤ) (which : ℕ) (first second
   abbrev pub Gives : ℕ → Type 0
   Gives n = call .answer .number ≡ n
 
-  -- of 1, 2 and 3, which are of the regions' lengths and the layout alone, this is the lowest that applies
-  abbrev pub Lowest : ℕ → Type 0
-  Lowest n = layoutNumber (length first) (length second) l ≡ n
+  -- the sentences of 1, 2 and 3, which are of the regions' lengths and the layout alone, in words of bytes
+  abbrev pub One : Type 0
+  One = LengthsWrong (length first) (length second)
 
-  -- none of the three applies, in words of bytes
+  abbrev pub Two : Type 0
+  Two = EndsPast (length first) l
+
+  abbrev pub Three : Type 0
+  Three = ShareByte l
+
   abbrev pub NoneOfThree : Type 0
-  NoneOfThree = Sound (length first) (length second) l
+  NoneOfThree = (One → ⊥) × (Two → ⊥) × (Three → ⊥)
 
   -- "Given exactly if"
   pub record ExactlyIf : Type 0 where
     -- "no whole-call number applies"
     pub zero : Gives 0 ↔ NoneOfThree × (length mixes ≡ mixesSize) × (which ≤ 1)
-    pub one : Gives 1 ↔ Lowest 1
-    pub two : Gives 2 ↔ Lowest 2
-    pub three : Gives 3 ↔ Lowest 3
+    pub one : Gives 1 ↔ One
+    pub two : Gives 2 ↔ (One → ⊥) × Two
+    pub three : Gives 3 ↔ (One → ⊥) × (Two → ⊥) × Three
     -- "the mix buffer is not 1,920 signed 32-bit numbers", and no lower number applies
     pub six : Gives 6 ↔ NoneOfThree × (length mixes ≢ mixesSize)
     -- "the mixer's region number exceeds 1", and no lower number applies
