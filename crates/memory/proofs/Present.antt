@@ -1,35 +1,33 @@
 -- When number 4 is given, and what the look-up means byte by byte: the test of the two ends says the same of every byte between. Assumes nothing.
-use mathlib.Core.Path.{_≡_, sym, ap, _∙_}
+use mathlib.Core.Path.{_≡_, refl, sym, ap, _∙_}
 use mathlib.Core.Bool.{true, false}
-use mathlib.Core.List.{List, []}
-use mathlib.Core.Logic.{_⊎_, inl, inr, ⊎-elim}
+use mathlib.Core.List.{List, [], _∷_}
+use mathlib.Core.Logic.{⊎-elim, _↔_}
 use Prim.Native.Nat.{ℕ, _+_, _-_, _^_, _≤_, _<_}
 use native.Mathlib.Omega.{arith}
-use lib.Dec.{leb}
+use lib.Dec.{ltb, leb, lit<}
 use lib.ListN.{length, getD}
-use borrow.Author.Tests.{eq-eqb, ne-eqb, le-leb, lt-leb, leb-true, lt-ltb, le-ltb}
+use borrow.Author.Tests.{eq-eqb, ne-eqb, le-leb, lt-leb, leb-true, ltb-true, lt-ltb}
 use Rattle.lists.specs.Splice.{part}
 use Rattle.lists.proofs.Splice.{length-part, part-at}
 use Rattle.lists.proofs.Walk.{below-or}
 use Rattle.lists.proofs.Bools.{or-no, or-yes, and-no, and-yes, and-both, cond-yes, cond-no}
-use Rattle.lists.proofs.Lowest.{fails-if}
+use Rattle.lists.specs.Lowest.{rule, Given}
+use Rattle.lists.proofs.Lowest.{fails-if, lowest-given}
 use Rattle.memory.specs.Window.{windowNumber, WindowExactly, presentIn, lookUp, LiesInside, AllInside, byteOf, LookedUp}
 
 pub window-exactly : (base size : ℕ) → WindowExactly base size
-window-exactly base size = record { four = (λ e. over (below-or (2 ^ 32) (base + size)) e, λ h. four h); none = (λ e h. never (four h) e, λ n. fits (λ h. n h)) }
+window-exactly base size = record {
+  four = (λ e. says .0 (only .given 0 (lit< tt) .0 e), λ h. only .given 0 (lit< tt) .1 (says .1 h));
+  none = (λ e. fails-if _ says .0 (only .nothing .0 e .0), λ n. only .nothing .1 (fails-if _ says .1 n, tt));
+}
   where
-    four : 2 ^ 32 < base + size → windowNumber base size ≡ 4
-    four h = cond-yes 4 0 (lt-ltb (2 ^ 32) (base + size) h)
+    -- the number is that of a list of one rule
+    only : Given (rule (ltb (2 ^ 32) (base + size)) 4 ∷ [])
+    only = lowest-given (rule (ltb (2 ^ 32) (base + size)) 4 ∷ []) refl
 
-    never : windowNumber base size ≡ 4 → windowNumber base size ≡ 0 → ⊥
-    never f z = omega (arith, sym f ∙ z)
-
-    over : (2 ^ 32 < base + size) ⊎ (base + size ≤ 2 ^ 32) → windowNumber base size ≡ 4 → 2 ^ 32 < base + size
-    over (inl h) e = h
-    over (inr h) e = absurd (never e (cond-no 4 0 (le-ltb (2 ^ 32) (base + size) h)))
-
-    fits : (2 ^ 32 < base + size → ⊥) → windowNumber base size ≡ 0
-    fits n = cond-no 4 0 (le-ltb (2 ^ 32) (base + size) (⊎-elim (λ h. absurd (n h)) (λ h. h) (below-or (2 ^ 32) (base + size))))
+    says : (ltb (2 ^ 32) (base + size) ≡ true) ↔ (2 ^ 32 < base + size)
+    says = (ltb-true (2 ^ 32) (base + size), lt-ltb (2 ^ 32) (base + size))
 
 module _ (size base address count : ℕ) where
   -- the cases of being present: nothing is asked for; the address lies before the window; it does not
