@@ -1,26 +1,27 @@
--- The laws of decimal digits and of columns: a number of ten or more has the digits of its tenth and one more, by induction on the turns. Assumes nothing.
+-- The laws of decimal digits and of columns: a number of ten or more has the digits of its tenth part and one more, by induction on the turns.
+-- Assumes nothing.
 use mathlib.Core.Path.{_≡_, refl, sym, ap, _∙_}
+use mathlib.Core.Bool.{Bool, true, false}
 use mathlib.Core.List.{List, [], _∷_, _++_}
 use mathlib.Core.Logic.{⊎-elim}
-use Prim.Native.Nat.{ℕ, zero, suc, _+_, _-_, _/_, _%_, _^_, _≤_, _<_}
+use Prim.Native.Nat.{ℕ, zero, suc, _+_, _-_, _/_, _^_, _≤_, _<_}
 use native.Mathlib.Nat.{not-suc-le-zero}
 use native.Mathlib.Omega.{arith}
-use lib.ListN.{length, replicate, length-append}
+use lib.ListN.{length, length-append, length-replicate}
 use borrow.Author.Tests.{lt-ltb, le-ltb}
 use Rattle.lists.proofs.Bools.{cond-yes, cond-no}
 use Rattle.lists.proofs.Walk.{below-or}
-use Rattle.listing.specs.Text.{decimalIn, decimal, column}
-use Rattle.listing.specs.Inner.{signColumn}
+use Rattle.listing.specs.Text.{lastDigit, decimalIn, decimal, numeral, column}
 
--- a last digit
-abbrev last : ℕ → List ℕ
-last n = (48 + n % 10) ∷ []
+-- after the digits of its tenth part, or after none, the last digit
+abbrev last : List ℕ → ℕ → List ℕ
+last digits n = digits ++ (lastDigit n ∷ [])
 
-single : (turns n : ℕ) → n < 10 → decimalIn (suc turns) n ≡ last n
-single turns n h = cond-yes _ _ (lt-ltb n 10 h) ∙ ap (λ (d : ℕ). (48 + d) ∷ []) z
-  where
-    z : n ≡ n % 10
-    z = omega arith
+single : (turns n : ℕ) → n < 10 → decimalIn (suc turns) n ≡ last [] n
+single turns n h = ap (λ (l : List ℕ). last l n) (cond-yes [] (decimalIn turns (n / 10)) (lt-ltb n 10 h))
+
+several : (turns n : ℕ) → 10 ≤ n → decimalIn (suc turns) n ≡ last (decimalIn turns (n / 10)) n
+several turns n h = ap (λ (l : List ℕ). last l n) (cond-no [] (decimalIn turns (n / 10)) (le-ltb n 10 h))
 
 -- enough turns are as good as more
 enough : (m k n : ℕ) → n < m → n < k → decimalIn m n ≡ decimalIn k n
@@ -28,47 +29,40 @@ enough zero k n h l = absurd (not-suc-le-zero h)
 enough (suc m) zero n h l = absurd (not-suc-le-zero l)
 enough (suc m) (suc k) n h l =
     ⊎-elim (λ q. single m n q ∙ sym (single k n q))
-    (λ q.
-    cond-no _ _ (le-ltb n 10 q) ∙ ap (λ (l : List ℕ). l ++ last n) (enough m k (n / 10) (omega arith) (omega arith))
-    ∙ sym (cond-no _ _ (le-ltb n 10 q)))
+    (λ q. several m n q ∙ ap (λ (l : List ℕ). last l n) (enough m k (n / 10) (omega arith) (omega arith)) ∙ sym (several k n q))
     (below-or n 10)
 
-pub one-digit : (n : ℕ) → n < 10 → decimal n ≡ last n
+pub one-digit : (n : ℕ) → n < 10 → decimal n ≡ lastDigit n ∷ []
 unfolding decimal
 one-digit n h = single n n h
 
-pub more-digits : (n : ℕ) → 10 ≤ n → decimal n ≡ decimal (n / 10) ++ last n
+pub more-digits : (n : ℕ) → 10 ≤ n → decimal n ≡ decimal (n / 10) ++ (lastDigit n ∷ [])
 unfolding decimal
-more-digits n h = cond-no _ _ (le-ltb n 10 h) ∙ ap (λ (l : List ℕ). l ++ last n) (enough n (suc (n / 10)) (n / 10) (omega arith) (omega arith))
+more-digits n h = several n n h ∙ ap (λ (l : List ℕ). last l n) (enough n (suc (n / 10)) (n / 10) (omega arith) (omega arith))
 
--- one digit more than a tenth has
-pub next-digit : (n : ℕ) (digits : List ℕ) → 10 ≤ n → decimal (n / 10) ≡ digits → decimal n ≡ digits ++ last n
-next-digit n digits h e = more-digits n h ∙ ap (λ (l : List ℕ). l ++ last n) e
+-- how many they are
+pub one-long : (n : ℕ) → n < 10 → length (decimal n) ≡ 1
+one-long n h = ap length (one-digit n h)
+
+pub more-long : (n : ℕ) → 10 ≤ n → length (decimal n) ≡ length (decimal (n / 10)) + 1
+more-long n h = ap length (more-digits n h) ∙ length-append (decimal (n / 10)) (lastDigit n ∷ [])
+
+pub some-digit : (n : ℕ) → 1 ≤ length (decimal n)
+some-digit n = ⊎-elim (λ q. omega (arith, one-long n q)) (λ q. omega (arith, more-long n q)) (below-or n 10)
 
 -- a number below a power of ten has no more digits than the power has zeros
-short : (k n : ℕ) → n < 10 ^ suc k → length (decimal n) ≤ suc k
-short zero n h = omega (arith, ap length (one-digit n h))
+pub short : (k n : ℕ) → n < 10 ^ suc k → length (decimal n) ≤ suc k
+short zero n h = omega (arith, one-long n h)
 short (suc k) n h =
-    ⊎-elim (λ q. omega (arith, ap length (one-digit n q)))
-    (λ q. omega (arith, ap length (more-digits n q), length-append (decimal (n / 10)) (last n), short k (n / 10) (omega arith)))
+    ⊎-elim (λ q. omega (arith, one-long n q))
+    (λ q. omega (arith, more-long n q, short k (n / 10) (omega arith)))
     (below-or n 10)
 
--- ---- columns
+-- a sign takes one place
+pub numeral-short : (negative : Bool) (n k : ℕ) → length (decimal n) ≤ k → length (numeral negative n) ≤ suc k
+numeral-short true n k h = omega arith
+numeral-short false n k h = omega arith
 
-replicate-snoc : (n x : ℕ) (l : List ℕ) → replicate n x ++ (x ∷ l) ≡ replicate (suc n) x ++ l
-replicate-snoc zero x l = refl
-replicate-snoc (suc n) x l = ap (λ (r : List ℕ). x ∷ r) (replicate-snoc n x l)
-
--- a space for a sign: no sign
-pub space-column : (n : ℕ) → n < 100000 → signColumn 32 (decimal n) ≡ column (decimal n)
-space-column n h =
-    replicate-snoc (7 - length (decimal n)) 32 (decimal n) ∙ ap (λ (k : ℕ). replicate k 32 ++ decimal n) (z (short 4 n h))
-  where
-    z : length (decimal n) ≤ 5 → suc (7 - length (decimal n)) ≡ 8 - length (decimal n)
-    z k = omega arith
-
-pub sign-column : (sign : ℕ) (digits : List ℕ) → signColumn sign digits ≡ column (sign ∷ digits)
-sign-column sign digits = ap (λ (k : ℕ). replicate k 32 ++ (sign ∷ digits)) z
-  where
-    z : 7 - length digits ≡ 8 - suc (length digits)
-    z = omega arith
+-- a column is as long as it is wide
+pub column-long : (width : ℕ) (text : List ℕ) → length text ≤ width → length (column width text) ≡ width
+column-long width text h = simp (length-append, length-replicate) (omega arith)

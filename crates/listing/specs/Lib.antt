@@ -1,3 +1,5 @@
 pub mod Text
+pub mod Sizes
 pub mod Listing
+pub mod Laws
 pub mod Inner

@@ -1,5 +1,5 @@
 -- The decode listing program of document 01: what it prints for an input. Assumes nothing: these are definitions.
-use Prim.Native.Nat.{ℕ, zero, suc, _+_, _*_}
+use Prim.Native.Nat.{ℕ, zero, suc, _+_}
 use mathlib.Core.Bool.{Bool, cond}
 use mathlib.Core.List.{List, [], _∷_, _++_}
 use lib.Dec.{eqb}
@@ -7,10 +7,11 @@ use lib.IntN.{ℤ}
 use lib.ListN.{length, drop}
 use Rattle.numbers.specs.Wrap.{signed16}
 use Rattle.memory.specs.Little.{at16}
-use Rattle.adpcm.specs.Code.{framesOf, decodedSamples, decodedHistory}
+use Rattle.adpcm.specs.Code.{decodedSamples, decodedHistory}
 use Rattle.adpcm.specs.Adpcm.{sampleOf}
 use Rattle.adpcm.specs.declared.History.{History}
-use Rattle.listing.specs.Text.{decimal, signedDecimal, column, line}
+use Rattle.listing.specs.Text.{ascii, decimal, signedDecimal, column, newline}
+use Rattle.listing.specs.Sizes.{width, header, frameBytes}
 
 -- ---- the input: "16 coefficients, yn1, yn2, count (all 16 bits, little-endian, count unsigned), then the frames"
 
@@ -33,11 +34,11 @@ countIn input = at16 input 36
 
 -- the frames, all that follows
 abbrev pub framesIn : List ℕ → List ℕ
-framesIn input = drop 38 input
+framesIn input = drop header input
 
 -- no bytes are missing or left over: an input that ends before its frames is never complete
 abbrev pub complete : List ℕ → Bool
-complete input = eqb (length input) (38 + framesOf (countIn input) * 8)
+complete input = eqb (length input) (header + frameBytes (countIn input))
 
 -- the samples that the frames hold
 unfoldable pub samplesIn : List ℕ → List ℤ
@@ -49,30 +50,30 @@ lastHistoryIn input = decodedHistory sampleOf (coefficientsIn input) (historyIn 
 
 -- ---- the output
 
--- the headings "sample" and "value"
-abbrev pub samplesHeading : List ℕ
-samplesHeading = line (column (115 ∷ 97 ∷ 109 ∷ 112 ∷ 108 ∷ 101 ∷ [])) (column (118 ∷ 97 ∷ 108 ∷ 117 ∷ 101 ∷ []))
-
--- the headings "yn1" and "yn2"
-abbrev pub historyHeading : List ℕ
-historyHeading = line (column (121 ∷ 110 ∷ 49 ∷ [])) (column (121 ∷ 110 ∷ 50 ∷ []))
+-- a line of two columns
+abbrev pub row : List ℕ → List ℕ → List ℕ
+row left right = column width left ++ (column width right ++ newline)
 
 -- "sample index and value", a line for each sample, from an index on
 abbrev pub rows : ℕ → List ℤ → List ℕ
 rows index [] = []
-rows index (y ∷ samples) = line (column (decimal index)) (column (signedDecimal y)) ++ rows (index + 1) samples
+rows index (y ∷ samples) = row (decimal index) (signedDecimal y) ++ rows (index + 1) samples
 
--- the history, the newer sample first
-abbrev pub historyRow : History → List ℕ
-historyRow h = line (column (signedDecimal (h .yn1))) (column (signedDecimal (h .yn2)))
+-- the samples under their headings
+abbrev pub samplesTable : List ℤ → List ℕ
+samplesTable samples = row (ascii "sample") (ascii "value") ++ rows 0 samples
+
+-- the history under its headings, the newer sample first
+abbrev pub historyTable : History → List ℕ
+historyTable h = row (ascii "yn1") (ascii "yn2") ++ row (signedDecimal (h .yn1)) (signedDecimal (h .yn2))
 
 -- "Samples and history each stand under a line of headings"
 abbrev pub tables : List ℤ → History → List ℕ
-tables samples h = samplesHeading ++ (rows 0 samples ++ (historyHeading ++ historyRow h))
+tables samples h = samplesTable samples ++ historyTable h
 
 -- "9 in one column"
 abbrev pub onlyNine : List ℕ
-onlyNine = column (decimal 9) ++ (10 ∷ [])
+onlyNine = column width (decimal 9) ++ newline
 
 -- what the program prints for an input: "If bytes are missing or left over it prints only 9"
 unfoldable pub listed : List ℕ → List ℕ

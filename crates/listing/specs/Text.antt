@@ -1,29 +1,44 @@
--- Text as the decode listing has it, a list of ASCII bytes: numbers in decimal, columns and lines. Assumes nothing: these are definitions.
+-- Text as the decode listing has it, a list of ASCII bytes: words, numbers in decimal, and columns. Assumes nothing: these are definitions.
 use Prim.Native.Nat.{ℕ, zero, suc, _+_, _-_, _/_, _%_}
-use mathlib.Core.Bool.{cond}
+use Prim.Native.Char.{Char, code}
+use Prim.Native.String.{String, [] as nothing, _∷_ as _then_}
+use mathlib.Core.Bool.{Bool, true, false, cond}
 use mathlib.Core.List.{List, [], _∷_, _++_}
 use lib.Dec.{ltb}
 use lib.IntN.{ℤ, pos, negsuc}
 use lib.ListN.{length, replicate}
 
--- the decimal digits of n as ASCII, a digit a turn
+-- the bytes of a text
+abbrev pub ascii : String → List ℕ
+ascii nothing = []
+ascii (c then text) = code c ∷ ascii text
+
+-- the last decimal digit of n
+abbrev pub lastDigit : ℕ → ℕ
+lastDigit n = code "0" + n % 10
+
+-- the decimal digits of n, a digit a turn: a number below ten is its only digit, any other has the digits of its tenth part before its last
 abbrev pub decimalIn : ℕ → ℕ → List ℕ
 decimalIn zero n = []
-decimalIn (suc turns) n = cond (ltb n 10) ((48 + n) ∷ []) (decimalIn turns (n / 10) ++ ((48 + n % 10) ∷ []))
+decimalIn (suc turns) n = cond (ltb n 10) [] (decimalIn turns (n / 10)) ++ (lastDigit n ∷ [])
 
 -- the decimal digits of n, with no leading zeros: n + 1 turns are always enough
 unfoldable pub decimal : ℕ → List ℕ
 decimal n = decimalIn (suc n) n
 
--- "-" before a negative number
+-- the decimal digits of n, after "-" where it is to be negative
+abbrev pub numeral : Bool → ℕ → List ℕ
+numeral negative n = cond negative (code "-" ∷ decimal n) (decimal n)
+
+-- a whole number in decimal
 abbrev pub signedDecimal : ℤ → List ℕ
-signedDecimal (pos n) = decimal n
-signedDecimal (negsuc n) = 45 ∷ decimal (suc n)
+signedDecimal (pos n) = numeral false n
+signedDecimal (negsuc n) = numeral true (suc n)
 
--- "Columns are 8 wide, right-justified"
-abbrev pub column : List ℕ → List ℕ
-column text = replicate (8 - length text) 32 ++ text
+-- a text "right-justified" in a column of a width; one that is longer than the width stands as it is
+abbrev pub column : ℕ → List ℕ → List ℕ
+column width text = replicate (width - length text) (code " ") ++ text
 
--- two columns: "every line ends with a newline"
-abbrev pub line : List ℕ → List ℕ → List ℕ
-line left right = left ++ (right ++ (10 ∷ []))
+-- "every line ends with a newline"
+abbrev pub newline : List ℕ
+newline = ascii "\n"

@@ -1,10 +1,11 @@
--- `decode_listing::main` is safe and ends: the listing lies within the output, since the output begins with it. Assumes nothing.
+-- `decode_listing::main` is safe and ends: the listing of what was read lies within the output, since the output begins with it. Assumes nothing.
 use mathlib.Core.Path.{_≡_, sym, ap}
 use mathlib.Core.List.{List, _++_}
 use Prim.Native.Nat.{ℕ, _≤_}
 use native.Mathlib.Omega.{arith}
-use lib.ListN.{length, drop, length-append}
-use lib.Seq.{length-take-le}
+use lib.ListN.{length, take, drop, length-append, length-take}
+use lib.Seq.{take-all, length-take-le}
+use Rattle.listing.specs.Sizes.{inputRoom}
 use Rattle.listing.specs.Listing.{listed}
 use borrow.Author.Needs.{needs}
 use Rattle.decode_listing.proofs.main.Statement.{statement}
@@ -13,8 +14,12 @@ use Rattle.decode_listing.proofs.main.Tie as tie
 begins : (input old out : List ℕ) (n : ℕ) → n ≡ length (listed input) → out ≡ listed input ++ drop n old → n ≤ length out
 begins input old out n e h = omega (arith, ap length h, length-append (listed input) (drop n old))
 
-within : (c : tie.After-listing) → c .listing .result ≤ length (c .listing .last .1 .0)
-within c = begins _ _ (c .listing .last .1 .0) (c .listing .result) (c .listing .ensures .0) (c .listing .ensures .1)
+-- what was read is the first of itself
+itself : (got : ℕ) (buffer : List ℕ) → got ≤ inputRoom → take got buffer ≡ take inputRoom (take got buffer)
+itself got buffer h = sym (take-all inputRoom (take got buffer) (simp length-take (omega arith)))
+
+within : (c : tie.After-list-read) → c .list-read .result ≤ length (c .list-read .last .1 .1 .0)
+within c = begins _ _ (c .list-read .last .1 .1 .0) (c .list-read .result) (c .list-read .ensures .0 _ (itself _ _ ?)) (c .list-read .ensures .1 _ (itself _ _ ?))
 
 slice-aggregate-read-full : tie.Need-slice-aggregate-read-full
 slice-aggregate-read-full c = search needs
@@ -22,14 +27,11 @@ slice-aggregate-read-full c = search needs
 read-full-requires : tie.Need-read-full-requires
 read-full-requires c κs = search needs
 
-array-share-prefix-input : tie.Need-array-share-prefix-input
-array-share-prefix-input c = search needs
+slice-aggregate-list-read : tie.Need-slice-aggregate-list-read
+slice-aggregate-list-read c = search needs
 
-slice-aggregate-listing : tie.Need-slice-aggregate-listing
-slice-aggregate-listing c = search needs
-
-listing-requires : tie.Need-listing-requires
-listing-requires c κs = search needs
+list-read-requires : tie.Need-list-read-requires
+list-read-requires c κs = search needs
 
 array-share-prefix-output : tie.Need-array-share-prefix-output
 array-share-prefix-output c = within c
@@ -49,9 +51,8 @@ main-spec =
     (tie.spec
     slice-aggregate-read-full
     read-full-requires
-    array-share-prefix-input
-    slice-aggregate-listing
-    listing-requires
+    slice-aggregate-list-read
+    list-read-requires
     array-share-prefix-output
     slice-aggregate-write-all
     write-all-requires

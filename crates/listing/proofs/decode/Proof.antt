@@ -11,18 +11,19 @@ use borrow.Author.Tests.{le-ltb, eq-eqb}
 use Rattle.lists.proofs.Bools.{or-no, not-yes, cond-no}
 use Rattle.adpcm.specs.declared.History.{History}
 use Rattle.adpcm.specs.declared.Decoded.{Decoded}
-use Rattle.adpcm.specs.Code.{framesOf, decodedSamples, decodedHistory}
+use Rattle.adpcm.specs.Code.{decodedSamples, decodedHistory}
 use Rattle.adpcm.specs.Adpcm.{sampleOf, refused, decodeAnswer, decodeOutput}
 use Rattle.adpcm.proofs.Codes.{decoded-long}
+use Rattle.listing.specs.Sizes.{header, frameBytes, mostSamples}
 use Rattle.listing.specs.Listing.{coefficientsIn, historyIn, countIn, framesIn, samplesIn, lastHistoryIn}
 use borrow.Author.Needs.{needs}
 use Rattle.listing.proofs.decode.Statement.{statement}
 use Rattle.listing.proofs.decode.Tie as tie
 
 module _ (input frames : List ℕ) (cs : List ℤ) (h : History) (count : ℕ) (old : List ℤ)
-    (long : length input ≡ 38 + framesOf count * 8) (many : count ≤ 65535) (room : count ≤ length old)
+    (long : length input ≡ header + frameBytes count) (many : count ≤ mostSamples) (room : count ≤ length old)
     (ce : cs ≡ coefficientsIn input) (he : h ≡ historyIn input) (fe : frames ≡ framesIn input) (ne : count ≡ countIn input) where
-  whole : length frames ≡ framesOf count * 8
+  whole : length frames ≡ frameBytes count
   whole = ap length fe ∙ simp length-drop (omega arith)
 
   served : refused (length frames) count (length old) ≡ false
@@ -68,7 +69,7 @@ returns c =
     let s = x .before .before in
     let a = s .args in
     let b = a .bytes .now in
-    let f : take (length b - 38) (drop 38 b) ≡ drop 38 b = take-all (length b - 38) (drop 38 b) (simp length-drop (omega arith)) in (
+    let f : take (length b - header) (drop header b) ≡ drop header b = take-all (length b - header) (drop header b) (simp length-drop (omega arith)) in (
       samples-come b _ _ _ (a .count) (a .samples .now) (s .pre .0) (s .pre .1 .1 .0) (s .pre .1 .1 .1) (x .coefficients .ensures) (y .history .ensures) f (s .pre .1 .0)
           (d .decode-adpcm .last .1 .1 .1 .1 .0) (d .decode-adpcm .ensures .1),
       history-comes b _ _ _ (a .count) (a .samples .now) (s .pre .0) (s .pre .1 .1 .0) (s .pre .1 .1 .1) (x .coefficients .ensures) (y .history .ensures) f (s .pre .1 .0)

@@ -1,15 +1,15 @@
 -- `listing::listing` meets its contract: what was put from the first place on is the listing, and the rest is as it was. Assumes nothing.
 use mathlib.Core.Path.{_≡_, sym, ap, _∙_}
 use mathlib.Core.Bool.{false}
-use mathlib.Core.List.{List, [], _∷_, _++_}
-use Prim.Native.Nat.{ℕ, _+_, _*_, _≤_, _<_}
+use mathlib.Core.List.{List, _++_}
+use Prim.Native.Nat.{ℕ, _+_, _≤_, _<_}
 use native.Mathlib.Omega.{arith}
 use lib.ListN.{length, drop}
 use borrow.Author.Tests.{eq-eqb, ne-eqb}
 use Rattle.lists.proofs.Bools.{cond-yes, cond-no}
 use Rattle.lists.proofs.Splice.{splice-is}
-use Rattle.adpcm.specs.Code.{framesOf}
 use Rattle.listing.specs.Text.{decimal}
+use Rattle.listing.specs.Sizes.{header, frameBytes, outputRoom}
 use Rattle.listing.specs.Inner.{Put}
 use Rattle.listing.specs.Listing.{countIn, complete, samplesIn, lastHistoryIn, tables, onlyNine, listed}
 use borrow.Author.Needs.{needs}
@@ -29,45 +29,41 @@ put-listed input old text new r e p h = (
     after : r ≡ length text
     after = omega (arith, p .after)
 
-abbrev nine : List ℕ
-nine = 32 ∷ 32 ∷ 32 ∷ 32 ∷ 32 ∷ 32 ∷ 32 ∷ 57 ∷ 10 ∷ []
-
 -- an incomplete input
-put-nine : (input old new : List ℕ) (r : ℕ) → complete input ≡ false → Put old 0 nine new r → length old ≡ 1114146 → Listed input old new r
+nine-listed : (input old new : List ℕ) (r : ℕ) → complete input ≡ false → Put old 0 onlyNine new r → length old ≡ outputRoom → Listed input old new r
 unfolding decimal listed
-put-nine input old new r t p k = put-listed input old nine new r (sym (cond-no (tables (samplesIn input) (lastHistoryIn input)) onlyNine t)) p (omega (arith, p .after))
+nine-listed input old new r t p k =
+    put-listed input old onlyNine new r (sym (cond-no (tables (samplesIn input) (lastHistoryIn input)) onlyNine t)) p (omega (arith, p .after))
 
-ends-early : (input : List ℕ) → length input < 38 → complete input ≡ false
-ends-early input h = ne-eqb (length input) (38 + framesOf (countIn input) * 8) other
+ends-early : (input : List ℕ) → length input < header → complete input ≡ false
+ends-early input h = ne-eqb (length input) (header + frameBytes (countIn input)) other
   where
-    other : length input ≡ 38 + framesOf (countIn input) * 8 → ⊥
+    other : length input ≡ header + frameBytes (countIn input) → ⊥
     other e = omega arith
 
-other-length : (input : List ℕ) (count : ℕ) → count ≡ countIn input → (length input ≡ 38 + framesOf count * 8 → ⊥) → complete input ≡ false
-other-length input count e h = ne-eqb _ _ (λ q. h (q ∙ ap (λ (n : ℕ). 38 + framesOf n * 8) (sym e)))
+other-length : (input : List ℕ) (count : ℕ) → count ≡ countIn input → (length input ≡ header + frameBytes count → ⊥) → complete input ≡ false
+other-length input count e h = ne-eqb _ _ (λ q. h (q ∙ ap (λ (n : ℕ). header + frameBytes n) (sym e)))
 
 -- a complete one
-put-complete : (input old new : List ℕ) (r count : ℕ) → count ≡ countIn input → length input ≡ 38 + framesOf count * 8
-    → Put old 0 (tables (samplesIn input) (lastHistoryIn input)) new r → r ≤ 1114146 → length old ≡ 1114146 → Listed input old new r
+put-complete : (input old new : List ℕ) (r count : ℕ) → count ≡ countIn input → length input ≡ header + frameBytes count
+    → Put old 0 (tables (samplesIn input) (lastHistoryIn input)) new r → r ≤ outputRoom → length old ≡ outputRoom → Listed input old new r
 unfolding listed
 put-complete input old new r count e h p l k =
     put-listed input old (tables (samplesIn input) (lastHistoryIn input)) new r
-    (sym (cond-yes (tables (samplesIn input) (lastHistoryIn input)) onlyNine (eq-eqb _ _ (h ∙ ap (λ (n : ℕ). 38 + framesOf n * 8) e))))
+    (sym (cond-yes (tables (samplesIn input) (lastHistoryIn input)) onlyNine (eq-eqb _ _ (h ∙ ap (λ (n : ℕ). header + frameBytes n) e))))
     p (omega arith)
 
-slice-aggregate-put : tie.Need-slice-aggregate-put
-slice-aggregate-put c = search needs
-
-put-requires : tie.Need-put-requires
-put-requires c κs = search needs
+put-nine-requires : tie.Need-put-nine-requires
+put-nine-requires c κs = search needs
 
 returns : tie.Need-returns
 returns c =
-    let t = c .before .before .before in
+    let t = c .before .before in
     let s = t .before .before in
     let a = s .args in
-    let room : length (a .output .now) ≡ 1114146 = search needs in
-    put-nine (a .input .now) (a .output .now) (c .put .last .1 .0) (c .put .result) (ends-early (a .input .now) (t .if1 .taken)) (c .put .ensures) room
+    let room : length (a .output .now) ≡ outputRoom = search needs in
+    nine-listed (a .input .now) (a .output .now) (c .put-nine .last .0) (c .put-nine .result) (ends-early (a .input .now) (t .if1 .taken))
+    (c .put-nine .ensures) room
 
 count-requires : tie.Need-count-requires
 count-requires c κs = search needs
@@ -81,22 +77,19 @@ mul-if2 c = search needs
 add-if2-2 : tie.Need-add-if2-2
 add-if2-2 c = search needs
 
-slice-aggregate-put-2 : tie.Need-slice-aggregate-put-2
-slice-aggregate-put-2 c = search needs
-
-put-requires-2 : tie.Need-put-requires-2
-put-requires-2 c κs = search needs
+put-nine-requires-2 : tie.Need-put-nine-requires-2
+put-nine-requires-2 c κs = search needs
 
 returns-2 : tie.Need-returns-2
 returns-2 c =
-    let t = c .before .before .before in
+    let t = c .before .before in
     let n = t .before .count in
     let s = t .before .before .before .before in
     let a = s .args in
-    let room : length (a .output .now) ≡ 1114146 = search needs in
-    let other : length (a .input .now) ≡ 38 + framesOf (n .result) * 8 → ⊥ = λ e. omega (arith, t .if2 .taken) in
-    put-nine (a .input .now) (a .output .now) (c .put2 .last .1 .0) (c .put2 .result)
-    (other-length (a .input .now) (n .result) (n .ensures .0) other) (c .put2 .ensures) room
+    let room : length (a .output .now) ≡ outputRoom = search needs in
+    let other : length (a .input .now) ≡ header + frameBytes (n .result) → ⊥ = λ e. omega (arith, t .if2 .taken) in
+    nine-listed (a .input .now) (a .output .now) (c .put-nine2 .last .0) (c .put-nine2 .result)
+    (other-length (a .input .now) (n .result) (n .ensures .0) other) (c .put-nine2 .ensures) room
 
 slice-aggregate-put-decoded : tie.Need-slice-aggregate-put-decoded
 slice-aggregate-put-decoded c = search needs
@@ -111,7 +104,7 @@ returns-3 c =
     let n = t .before .count in
     let s = t .before .before .before .before in
     let a = s .args in
-    let room : length (a .output .now) ≡ 1114146 = search needs in
+    let room : length (a .output .now) ≡ outputRoom = search needs in
     put-complete (a .input .now) (a .output .now) (d .last .1 .1 .1 .0) (d .result) (n .result) (n .ensures .0) (t .if2 .left)
     (d .ensures .0) (d .ensures .1) room
 
@@ -119,15 +112,13 @@ pub listing-spec : {M : Type 1} → statement M
 listing-spec =
     tie.close
     (tie.spec
-    slice-aggregate-put
-    put-requires
+    put-nine-requires
     returns
     count-requires
     add-if2
     mul-if2
     add-if2-2
-    slice-aggregate-put-2
-    put-requires-2
+    put-nine-requires-2
     returns-2
     slice-aggregate-put-decoded
     put-decoded-requires
