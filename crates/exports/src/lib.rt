@@ -3,10 +3,12 @@
 ghost use mathlib.Core.Path.{_≡_};
 ghost use Prim.Native.Nat.{_+_, _≤_, _<_};
 ghost use lib.ListN.{length};
+ghost use Rattle.listing.specs.Sizes.{inputRoom};
 use adpcm::History;
 use filters::state::BiquadFilter;
 use filters::state::Filters;
 use filters::state::SimpleFilter;
+use listing::sizes::OUTPUT_ROOM;
 use memory::layout::Layout;
 use mixer::state::Mixer;
 use mixer::state::Output;
@@ -100,6 +102,22 @@ pub extern "C" fn yinzhor_decode_adpcm(
     history[0] = yn1;
     history[1] = yn2;
     decoded.number
+}
+
+#[no_mangle]
+pub extern "C" fn yinzhor_listing(input: &[u8], output: &mut [u8; OUTPUT_ROOM]) -> usize {
+    listing::listing(input, output)
+}
+
+#[no_mangle]
+pub extern "C" fn yinzhor_list_read(
+    buffer: &[u8],
+    got: usize,
+    output: &mut [u8; OUTPUT_ROOM],
+) -> usize
+    requires { ⌜ (length (now buffer) ≡ inputRoom) × (got ≤ inputRoom) ⌝ }
+{
+    listing::list_read(buffer, got, output)
 }
 
 #[no_mangle]

@@ -12,8 +12,8 @@ use borrow.Author.Tests.{ne-eqb}
 use Rattle.lists.proofs.Bools.{cond-no}
 use Rattle.lists.proofs.Walk.{below-or}
 use Rattle.listing.specs.Sizes.{header, frameBytes, inputRoom}
-use Rattle.listing.specs.Listing.{countIn, complete, samplesIn, lastHistoryIn, tables, onlyNine, listed}
-use Rattle.listing.specs.Laws.{Bytes, CutListedAlike}
+use Rattle.listing.specs.Listing.{countIn, complete, readOf, tablesOf, onlyNine, listed}
+use Rattle.listing.specs.Laws.{Bytes, ReadListedAlike}
 
 -- the first bytes of bytes are bytes
 pub bytes-take : (n : ℕ) (l : List ℕ) → Bytes l → Bytes (take n l)
@@ -24,22 +24,22 @@ bytes-take n l b i =
 
 incomplete : (input : List ℕ) → complete input ≡ false → listed input ≡ onlyNine
 unfolding listed
-incomplete input e = cond-no (tables (samplesIn input) (lastHistoryIn input)) onlyNine e
+incomplete input e = cond-no (tablesOf input) onlyNine e
 
-same-count : (input : List ℕ) → countIn (take inputRoom input) ≡ countIn input
+same-count : (input : List ℕ) → countIn (readOf input) ≡ countIn input
 same-count input = λ j. getD-take inputRoom input 37 0 (omega arith) j * 256 + getD-take inputRoom input 36 0 (omega arith) j
 
-pub cut-listed : (input : List ℕ) → Bytes (take inputRoom input) → listed (take inputRoom input) ≡ listed input
-cut-listed input b = ⊎-elim longer (λ h. ap listed (take-all inputRoom input h)) (below-or inputRoom (length input))
+pub read-listed : (input : List ℕ) → Bytes (readOf input) → listed (readOf input) ≡ listed input
+read-listed input b = ⊎-elim longer (λ h. ap listed (take-all inputRoom input h)) (below-or inputRoom (length input))
   where
-    longer : inputRoom < length input → listed (take inputRoom input) ≡ listed input
-    longer h = incomplete (take inputRoom input) (ne-eqb _ _ cut-other) ∙ sym (incomplete input (ne-eqb _ _ whole-other))
+    longer : inputRoom < length input → listed (readOf input) ≡ listed input
+    longer h = incomplete (readOf input) (ne-eqb _ _ cut-other) ∙ sym (incomplete input (ne-eqb _ _ whole-other))
       where
-        cut-other : length (take inputRoom input) ≡ header + frameBytes (countIn (take inputRoom input)) → ⊥
+        cut-other : length (readOf input) ≡ header + frameBytes (countIn (readOf input)) → ⊥
         cut-other e = omega (arith, length-take-le inputRoom input (omega arith))
 
         whole-other : length input ≡ header + frameBytes (countIn input) → ⊥
         whole-other e = omega (arith, same-count input, b 36, b 37)
 
-pub cut-listed-alike : CutListedAlike
-cut-listed-alike input b = cut-listed input (bytes-take inputRoom input b)
+pub read-listed-alike : ReadListedAlike
+read-listed-alike input b = read-listed input (bytes-take inputRoom input b)

@@ -2,14 +2,13 @@
 use Prim.Native.Nat.{ℕ, _<_}
 use mathlib.Core.List.{List}
 use mathlib.Core.Path.{_≡_}
-use lib.ListN.{take, getD}
-use Rattle.listing.specs.Sizes.{inputRoom}
-use Rattle.listing.specs.Listing.{listed}
+use lib.ListN.{getD}
+use Rattle.listing.specs.Listing.{readOf, listed}
 
 -- a list of bytes
 abbrev pub Bytes : List ℕ → Type 0
 Bytes input = (i : ℕ) → getD input i 0 < 256
 
--- cut after as many bytes as the program's buffer holds, an input is listed as it is whole
-abbrev pub CutListedAlike : Type 0
-CutListedAlike = (input : List ℕ) → Bytes input → listed (take inputRoom input) ≡ listed input
+-- what the program does not read of an input changes nothing of its listing
+abbrev pub ReadListedAlike : Type 0
+ReadListedAlike = (input : List ℕ) → Bytes input → listed (readOf input) ≡ listed input

@@ -4,14 +4,14 @@ use mathlib.Core.Bool.{Bool, cond}
 use mathlib.Core.List.{List, [], _∷_, _++_}
 use lib.Dec.{eqb}
 use lib.IntN.{ℤ}
-use lib.ListN.{length, drop}
+use lib.ListN.{length, take, drop}
 use Rattle.numbers.specs.Wrap.{signed16}
 use Rattle.memory.specs.Little.{at16}
 use Rattle.adpcm.specs.Code.{decodedSamples, decodedHistory}
 use Rattle.adpcm.specs.Adpcm.{sampleOf}
 use Rattle.adpcm.specs.declared.History.{History}
 use Rattle.listing.specs.Text.{ascii, decimal, signedDecimal, column, newline}
-use Rattle.listing.specs.Sizes.{width, header, frameBytes}
+use Rattle.listing.specs.Sizes.{width, header, frameBytes, inputRoom}
 
 -- ---- the input: "16 coefficients, yn1, yn2, count (all 16 bits, little-endian, count unsigned), then the frames"
 
@@ -48,6 +48,10 @@ samplesIn input = decodedSamples sampleOf (coefficientsIn input) (historyIn inpu
 unfoldable pub lastHistoryIn : List ℕ → History
 lastHistoryIn input = decodedHistory sampleOf (coefficientsIn input) (historyIn input) (framesIn input) (countIn input)
 
+-- what the program reads of an input: all of it, or as many bytes as its buffer holds
+abbrev pub readOf : List ℕ → List ℕ
+readOf input = take inputRoom input
+
 -- ---- the output
 
 -- a line of two columns
@@ -71,10 +75,14 @@ historyTable h = row (ascii "yn1") (ascii "yn2") ++ row (signedDecimal (h .yn1))
 abbrev pub tables : List ℤ → History → List ℕ
 tables samples h = samplesTable samples ++ historyTable h
 
+-- both tables of what an input holds
+abbrev pub tablesOf : List ℕ → List ℕ
+tablesOf input = tables (samplesIn input) (lastHistoryIn input)
+
 -- "9 in one column"
 abbrev pub onlyNine : List ℕ
 onlyNine = column width (decimal 9) ++ newline
 
 -- what the program prints for an input: "If bytes are missing or left over it prints only 9"
 unfoldable pub listed : List ℕ → List ℕ
-listed input = cond (complete input) (tables (samplesIn input) (lastHistoryIn input)) onlyNine
+listed input = cond (complete input) (tablesOf input) onlyNine

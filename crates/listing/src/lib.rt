@@ -6,11 +6,11 @@ mod text;
 
 ghost use mathlib.Core.Path.{_≡_};
 ghost use mathlib.Core.List.{List, _++_};
-ghost use Prim.Native.Nat.{ℕ, _+_, _≤_};
+ghost use Prim.Native.Nat.{ℕ, _≤_};
 ghost use lib.ListN.{length, take, drop};
-ghost use Rattle.listing.specs.Sizes.{header, frameBytes, mostSamples, inputRoom, outputRoom};
-ghost use Rattle.listing.specs.Inner.{Put};
-ghost use Rattle.listing.specs.Listing.{countIn, samplesIn, lastHistoryIn, tables, listed};
+ghost use Rattle.listing.specs.Sizes.{inputRoom, outputRoom};
+ghost use Rattle.listing.specs.Inner.{Put, Whole};
+ghost use Rattle.listing.specs.Listing.{readOf, samplesIn, lastHistoryIn, tablesOf, listed};
 use adpcm::History;
 use sizes::HEADER;
 use sizes::MOST_SAMPLES;
@@ -18,7 +18,7 @@ use sizes::OUTPUT_ROOM;
 
 // Decodes a complete input of so many samples into the first places of `samples`.
 fn decode(bytes: &[u8], count: usize, samples: &mut [i16]) -> History
-    requires { ⌜ (length (now bytes) ≡ header + frameBytes count) × ((count ≡ countIn (now bytes)) × ((count ≤ mostSamples) × (count ≤ length (now samples)))) ⌝ }
+    requires { ⌜ Whole (now bytes) count × (count ≤ length (now samples)) ⌝ }
     ensures samples { λ _. ⌜ take count (now (samples .exit)) ≡ samplesIn (now (bytes .entry)) ⌝ }
     ensures history { λ r. ⌜ r ≡ lastHistoryIn (now (bytes .entry)) ⌝ }
 {
@@ -30,8 +30,8 @@ fn decode(bytes: &[u8], count: usize, samples: &mut [i16]) -> History
 
 // Decodes a complete input of so many samples, and puts both tables.
 fn put_decoded(bytes: &[u8], count: usize, samples: &mut [i16], output: &mut [u8]) -> usize
-    requires { ⌜ (length (now bytes) ≡ header + frameBytes count) × ((count ≡ countIn (now bytes)) × ((count ≤ mostSamples) × ((count ≤ length (now samples)) × (length (now output) ≡ outputRoom)))) ⌝ }
-    ensures tables { λ r. ⌜ Put (now (output .entry)) 0 (tables (samplesIn (now (bytes .entry))) (lastHistoryIn (now (bytes .entry)))) (now (output .exit)) r ⌝ }
+    requires { ⌜ Whole (now bytes) count × ((count ≤ length (now samples)) × (length (now output) ≡ outputRoom)) ⌝ }
+    ensures tables { λ r. ⌜ Put (now (output .entry)) 0 (tablesOf (now (bytes .entry))) (now (output .exit)) r ⌝ }
     ensures next { λ r. ⌜ r ≤ outputRoom ⌝ }
 {
     let last = decode(bytes, count, samples);
@@ -42,6 +42,7 @@ fn put_decoded(bytes: &[u8], count: usize, samples: &mut [i16], output: &mut [u8
 pub fn listing(input: &[u8], output: &mut [u8; OUTPUT_ROOM]) -> usize
     ensures length { λ r. ⌜ r ≡ length (listed (now (input .entry))) ⌝ }
     ensures output { λ r. ⌜ now (output .exit) ≡ listed (now (input .entry)) ++ drop r (now (output .entry)) ⌝ }
+    ensures within { λ r. ⌜ r ≤ outputRoom ⌝ }
 {
     if input.len() < HEADER {
         return table::put_nine(output);
@@ -54,12 +55,13 @@ pub fn listing(input: &[u8], output: &mut [u8; OUTPUT_ROOM]) -> usize
     put_decoded(input, count, &mut samples, output)
 }
 
-// The listing of an input of which the first bytes were read into a buffer, `got` of them: all of it, or as many as the buffer holds. What lies
-// past the buffer changes nothing.
+// Lists an input of which `got` bytes were read into a buffer, all of it or as many as the buffer holds. What was not read changes nothing.
 pub fn list_read(buffer: &[u8], got: usize, output: &mut [u8; OUTPUT_ROOM]) -> usize
     requires { ⌜ (length (now buffer) ≡ inputRoom) × (got ≤ inputRoom) ⌝ }
-    ensures length { λ r. ⌜ ((input : List ℕ) → take got (now (buffer .entry)) ≡ take inputRoom input → r ≡ length (listed input)) ⌝ }
-    ensures output { λ r. ⌜ ((input : List ℕ) → take got (now (buffer .entry)) ≡ take inputRoom input → now (output .exit) ≡ listed input ++ drop r (now (output .entry))) ⌝ }
+    ensures length { λ r. ⌜ ((input : List ℕ) → take got (now (buffer .entry)) ≡ readOf input → r ≡ length (listed input)) ⌝ }
+    ensures output { λ r. ⌜ ((input : List ℕ) → take got (now (buffer .entry)) ≡ readOf input
+        → now (output .exit) ≡ listed input ++ drop r (now (output .entry))) ⌝ }
+    ensures within { λ r. ⌜ r ≤ outputRoom ⌝ }
 {
     listing(&buffer[..got], output)
 }

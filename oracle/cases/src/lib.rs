@@ -4,6 +4,7 @@ mod adpcm;
 pub mod configuring;
 pub mod floats;
 pub mod layout;
+pub mod listing;
 mod mixing;
 mod random;
 

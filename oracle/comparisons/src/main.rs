@@ -10,6 +10,7 @@ mod decode;
 mod dsp32;
 mod filters;
 mod layout;
+mod listing;
 mod measure;
 mod mixer;
 mod port;
@@ -28,12 +29,13 @@ use cases::Random;
 type Comparison = fn(&mut Random, usize) -> Result<u64, String>;
 
 /// each with how many random inputs are few.
-const COMPARISONS: [(&str, Comparison, usize); 9] = [
+const COMPARISONS: [(&str, Comparison, usize); 10] = [
     ("region", region::compare, 100_000),
     ("dsp32", dsp32::compare, 100_000),
     ("window", window::compare, 100_000),
     ("layout", layout::compare, 100_000),
     ("decode", decode::compare, 100_000),
+    ("listing", listing::compare, 1_000),
     ("casts", casts::compare, 1_000_000),
     ("mixer", mixer::compare, 20_000),
     ("filters", filters::compare, 20_000),

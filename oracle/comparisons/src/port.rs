@@ -4,6 +4,7 @@
 
 use cases::Mixed;
 use cases::configuring::{COEFFICIENTS, CONFIGURATION, RECORD};
+use cases::listing::{INPUT_ROOM, OUTPUT_ROOM};
 
 unsafe extern "C" {
     fn yinzhor_current_region(first: u16, second: u16) -> u32;
@@ -31,6 +32,8 @@ unsafe extern "C" {
         samples: *mut i16,
         samples_len: usize,
     ) -> u8;
+    fn yinzhor_listing(input: *const u8, input_len: usize, output: *mut u8) -> usize;
+    fn yinzhor_list_read(buffer: *const u8, buffer_len: usize, got: usize, output: *mut u8) -> usize;
 
     pub safe fn yinzhor_cast_i32(x: f32) -> i32;
     pub safe fn yinzhor_cast_i16(x: f64) -> i16;
@@ -146,6 +149,16 @@ pub fn decode_adpcm(
             samples.len(),
         )
     }
+}
+
+pub fn listing(input: &[u8], output: &mut [u8]) -> usize {
+    assert!(output.len() == OUTPUT_ROOM);
+    unsafe { yinzhor_listing(input.as_ptr(), input.len(), output.as_mut_ptr()) }
+}
+
+pub fn list_read(buffer: &[u8], got: usize, output: &mut [u8]) -> usize {
+    assert!(buffer.len() == INPUT_ROOM && got <= INPUT_ROOM && output.len() == OUTPUT_ROOM);
+    unsafe { yinzhor_list_read(buffer.as_ptr(), buffer.len(), got, output.as_mut_ptr()) }
 }
 
 pub fn fading(from: f32, to: f32, i: usize, sample: i16) -> i32 {

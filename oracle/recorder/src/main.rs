@@ -1,7 +1,7 @@
 //! writes what the oracle answers to fixed inputs, for programs that replay
 //! it without Rust: `record REPOSITORY` writes stdin and stdout of the crates
-//! replay_memory, replay_adpcm, replay_numbers, replay_mixer, replay_filters
-//! and run_config. every number is little-endian.
+//! replay_memory, replay_adpcm, replay_listing, replay_numbers, replay_mixer,
+//! replay_filters and run_config. every number is little-endian.
 
 use std::path::Path;
 use std::{env, fs, io};
@@ -9,6 +9,7 @@ use std::{env, fs, io};
 use cases::configuring::{FLAGS, Job, record_of, voice_of};
 use cases::floats::{doubles, gain, sample, single, singles, whole, wholes};
 use cases::layout::SIZES;
+use cases::listing::{edges, header, listed};
 use cases::{COUNTERS, Decode, Mixing, Random, SAMPLES, WORDS};
 use zakuro_core::memory::Memory;
 use zakuro_core::services::dsp_voices::{
@@ -91,6 +92,35 @@ fn adpcm(random: &mut Random) -> Replay {
         for value in samples.iter().chain(&history) {
             replay.stdout.extend(value.to_le_bytes());
         }
+    }
+    replay
+}
+
+/// records of 44 bytes: an input's length as 32 bits, a seed as 16 bits, and
+/// a header. the input is the header and bytes made from the seed, cut to the
+/// length. the answer has the listing's length and a sum over it as 32 bits
+/// each, and the last of it, at most 1,024 bytes.
+fn listing(random: &mut Random) -> Replay {
+    let mut replay = Replay::default();
+    for (count, length) in edges() {
+        let seed = random.word() as u16;
+        let header = header(random, count);
+        replay.stdin.extend((length as u32).to_le_bytes());
+        replay.stdin.extend(seed.to_le_bytes());
+        replay.stdin.extend(&header);
+
+        let mut state = seed as u32;
+        let mut input = header;
+        while input.len() < length {
+            state = (state * 25173 + 13849) % 65536;
+            input.push((state / 256) as u8);
+        }
+        input.truncate(length);
+        let text = listed(&input);
+        let sum = text.iter().fold(0u32, |sum, &byte| sum.wrapping_mul(31).wrapping_add(byte.into()));
+        replay.stdout.extend((text.len() as u32).to_le_bytes());
+        replay.stdout.extend(sum.to_le_bytes());
+        replay.stdout.extend(&text[text.len().saturating_sub(1024)..]);
     }
     replay
 }
@@ -397,5 +427,6 @@ fn main() -> io::Result<()> {
     numbers(&mut Random::new(3)).write(&crates.join("replay_numbers"))?;
     mixer(&mut Random::new(4)).write(&crates.join("replay_mixer"))?;
     config(&mut Random::new(5)).write(&crates.join("run_config"))?;
-    filters(&mut Random::new(6)).write(&crates.join("replay_filters"))
+    filters(&mut Random::new(6)).write(&crates.join("replay_filters"))?;
+    listing(&mut Random::new(7)).write(&crates.join("replay_listing"))
 }

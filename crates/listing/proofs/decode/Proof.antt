@@ -2,7 +2,7 @@
 use mathlib.Core.Path.{_≡_, ap, _∙_}
 use mathlib.Core.Bool.{false}
 use mathlib.Core.List.{List}
-use Prim.Native.Nat.{ℕ, _+_, _-_, _*_, _≤_}
+use Prim.Native.Nat.{ℕ, _-_, _≤_}
 use native.Mathlib.Omega.{arith}
 use lib.IntN.{ℤ}
 use lib.ListN.{length, take, drop, length-drop}
@@ -14,31 +14,31 @@ use Rattle.adpcm.specs.declared.Decoded.{Decoded}
 use Rattle.adpcm.specs.Code.{decodedSamples, decodedHistory}
 use Rattle.adpcm.specs.Adpcm.{sampleOf, refused, decodeAnswer, decodeOutput}
 use Rattle.adpcm.proofs.Codes.{decoded-long}
-use Rattle.listing.specs.Sizes.{header, frameBytes, mostSamples}
-use Rattle.listing.specs.Listing.{coefficientsIn, historyIn, countIn, framesIn, samplesIn, lastHistoryIn}
+use Rattle.listing.specs.Sizes.{header, frameBytes}
+use Rattle.listing.specs.Inner.{Whole}
+use Rattle.listing.specs.Listing.{coefficientsIn, historyIn, framesIn, samplesIn, lastHistoryIn}
 use borrow.Author.Needs.{needs}
 use Rattle.listing.proofs.decode.Statement.{statement}
 use Rattle.listing.proofs.decode.Tie as tie
 
-module _ (input frames : List ℕ) (cs : List ℤ) (h : History) (count : ℕ) (old : List ℤ)
-    (long : length input ≡ header + frameBytes count) (many : count ≤ mostSamples) (room : count ≤ length old)
-    (ce : cs ≡ coefficientsIn input) (he : h ≡ historyIn input) (fe : frames ≡ framesIn input) (ne : count ≡ countIn input) where
-  whole : length frames ≡ frameBytes count
-  whole = ap length fe ∙ simp length-drop (omega arith)
+module _ (input frames : List ℕ) (cs : List ℤ) (h : History) (count : ℕ) (old : List ℤ) (w : Whole input count) (room : count ≤ length old)
+    (ce : cs ≡ coefficientsIn input) (he : h ≡ historyIn input) (fe : frames ≡ framesIn input) where
+  filled : length frames ≡ frameBytes count
+  filled = ap length fe ∙ simp length-drop (omega (arith, w .long))
 
   served : refused (length frames) count (length old) ≡ false
-  served = or-no _ (le-ltb 65536 count (omega arith)) ∙ or-no _ (not-yes (eq-eqb _ _ whole)) ∙ le-ltb _ _ room
+  served = or-no _ (le-ltb 65536 count (omega (arith, w .few))) ∙ or-no _ (not-yes (eq-eqb _ _ filled)) ∙ le-ltb _ _ room
 
   samples-come : (out : List ℤ) → out ≡ decodeOutput cs h frames count old → take count out ≡ samplesIn input
   unfolding samplesIn
   samples-come out o =
       ap (take count) (o ∙ cond-no _ _ served)
-      ∙ take-at (decodedSamples sampleOf cs h frames count) (drop count old) count (decoded-long sampleOf cs h frames count whole)
-      ∙ (λ j. decodedSamples sampleOf (ce j) (he j) (fe j) (ne j))
+      ∙ take-at (decodedSamples sampleOf cs h frames count) (drop count old) count (decoded-long sampleOf cs h frames count filled)
+      ∙ (λ j. decodedSamples sampleOf (ce j) (he j) (fe j) (w .counted j))
 
   history-comes : (r : Decoded) → r ≡ decodeAnswer cs h frames count old → r .history ≡ lastHistoryIn input
   unfolding lastHistoryIn
-  history-comes r a = ap (λ (d : Decoded). d .history) (a ∙ cond-no _ _ served) ∙ (λ j. decodedHistory sampleOf (ce j) (he j) (fe j) (ne j))
+  history-comes r a = ap (λ (d : Decoded). d .history) (a ∙ cond-no _ _ served) ∙ (λ j. decodedHistory sampleOf (ce j) (he j) (fe j) (w .counted j))
 
 coefficients-requires : tie.Need-coefficients-requires
 coefficients-requires c κs = search needs
@@ -70,9 +70,9 @@ returns c =
     let a = s .args in
     let b = a .bytes .now in
     let f : take (length b - header) (drop header b) ≡ drop header b = take-all (length b - header) (drop header b) (simp length-drop (omega arith)) in (
-      samples-come b _ _ _ (a .count) (a .samples .now) (s .pre .0) (s .pre .1 .1 .0) (s .pre .1 .1 .1) (x .coefficients .ensures) (y .history .ensures) f (s .pre .1 .0)
+      samples-come b _ _ _ (a .count) (a .samples .now) (s .pre .0) (s .pre .1) (x .coefficients .ensures) (y .history .ensures) f
           (d .decode-adpcm .last .1 .1 .1 .1 .0) (d .decode-adpcm .ensures .1),
-      history-comes b _ _ _ (a .count) (a .samples .now) (s .pre .0) (s .pre .1 .1 .0) (s .pre .1 .1 .1) (x .coefficients .ensures) (y .history .ensures) f (s .pre .1 .0)
+      history-comes b _ _ _ (a .count) (a .samples .now) (s .pre .0) (s .pre .1) (x .coefficients .ensures) (y .history .ensures) f
           (d .decode-adpcm .result) (d .decode-adpcm .ensures .0),
     )
 

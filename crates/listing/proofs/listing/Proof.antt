@@ -11,19 +11,20 @@ use Rattle.lists.proofs.Splice.{splice-is}
 use Rattle.listing.specs.Text.{decimal}
 use Rattle.listing.specs.Sizes.{header, frameBytes, outputRoom}
 use Rattle.listing.specs.Inner.{Put}
-use Rattle.listing.specs.Listing.{countIn, complete, samplesIn, lastHistoryIn, tables, onlyNine, listed}
+use Rattle.listing.specs.Listing.{countIn, complete, tablesOf, onlyNine, listed}
 use borrow.Author.Needs.{needs}
 use Rattle.listing.proofs.listing.Statement.{statement}
 use Rattle.listing.proofs.listing.Tie as tie
 
 abbrev Listed : List ℕ → List ℕ → List ℕ → ℕ → Type 0
-Listed input old new r = (r ≡ length (listed input)) × (new ≡ listed input ++ drop r old)
+Listed input old new r = (r ≡ length (listed input)) × ((new ≡ listed input ++ drop r old) × (r ≤ outputRoom))
 
 -- the listing, put from the first place on
-put-listed : (input old text new : List ℕ) (r : ℕ) → text ≡ listed input → Put old 0 text new r → r ≤ length old → Listed input old new r
-put-listed input old text new r e p h = (
+put-listed : (input old text new : List ℕ) (r : ℕ) → text ≡ listed input → Put old 0 text new r → r ≤ outputRoom → length old ≡ outputRoom
+    → Listed input old new r
+put-listed input old text new r e p h k = (
   after ∙ ap length e,
-  p .stored ∙ splice-is old 0 text (omega (arith, p .after)) ∙ (λ j. e j ++ drop (sym (p .after) j) old),
+  (p .stored ∙ splice-is old 0 text (omega (arith, p .after)) ∙ (λ j. e j ++ drop (sym (p .after) j) old), h),
 )
   where
     after : r ≡ length text
@@ -33,7 +34,7 @@ put-listed input old text new r e p h = (
 nine-listed : (input old new : List ℕ) (r : ℕ) → complete input ≡ false → Put old 0 onlyNine new r → length old ≡ outputRoom → Listed input old new r
 unfolding decimal listed
 nine-listed input old new r t p k =
-    put-listed input old onlyNine new r (sym (cond-no (tables (samplesIn input) (lastHistoryIn input)) onlyNine t)) p (omega (arith, p .after))
+    put-listed input old onlyNine new r (sym (cond-no (tablesOf input) onlyNine t)) p (omega (arith, p .after)) k
 
 ends-early : (input : List ℕ) → length input < header → complete input ≡ false
 ends-early input h = ne-eqb (length input) (header + frameBytes (countIn input)) other
@@ -46,12 +47,12 @@ other-length input count e h = ne-eqb _ _ (λ q. h (q ∙ ap (λ (n : ℕ). head
 
 -- a complete one
 put-complete : (input old new : List ℕ) (r count : ℕ) → count ≡ countIn input → length input ≡ header + frameBytes count
-    → Put old 0 (tables (samplesIn input) (lastHistoryIn input)) new r → r ≤ outputRoom → length old ≡ outputRoom → Listed input old new r
+    → Put old 0 (tablesOf input) new r → r ≤ outputRoom → length old ≡ outputRoom → Listed input old new r
 unfolding listed
 put-complete input old new r count e h p l k =
-    put-listed input old (tables (samplesIn input) (lastHistoryIn input)) new r
-    (sym (cond-yes (tables (samplesIn input) (lastHistoryIn input)) onlyNine (eq-eqb _ _ (h ∙ ap (λ (n : ℕ). header + frameBytes n) e))))
-    p (omega arith)
+    put-listed input old (tablesOf input) new r
+    (sym (cond-yes (tablesOf input) onlyNine (eq-eqb _ _ (h ∙ ap (λ (n : ℕ). header + frameBytes n) e))))
+    p l k
 
 put-nine-requires : tie.Need-put-nine-requires
 put-nine-requires c κs = search needs

@@ -40,7 +40,7 @@ returns c =
     let t = c .before .before in
     let d = t .before .before .before .before in (
       put-as (λ j. tables (d .decode .ensures .0 j) (d .decode .ensures .1 j)) (t .put-tables .ensures .0),
-      omega (arith, t .put-tables .ensures .1, long d, d .before .before .before .before .pre .1 .1 .0),
+      omega (arith, t .put-tables .ensures .1, long d, d .before .before .before .before .pre .0 .few),
     )
 
 pub put-decoded-spec : {M : Type 1} → statement M
