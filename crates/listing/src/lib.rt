@@ -42,7 +42,7 @@ fn put_decoded(bytes: &[u8], count: usize, samples: &mut [i16], output: &mut [u8
 pub fn listing(input: &[u8], output: &mut [u8; OUTPUT_ROOM]) -> usize
     ensures length { λ r. ⌜ r ≡ length (listed (now (input .entry))) ⌝ }
     ensures output { λ r. ⌜ now (output .exit) ≡ listed (now (input .entry)) ++ drop r (now (output .entry)) ⌝ }
-    ensures within { λ r. ⌜ r ≤ outputRoom ⌝ }
+    ensures within { λ r. ⌜ r ≤ length (now (output .exit)) ⌝ }
 {
     if input.len() < HEADER {
         return table::put_nine(output);
@@ -61,7 +61,7 @@ pub fn list_read(buffer: &[u8], got: usize, output: &mut [u8; OUTPUT_ROOM]) -> u
     ensures length { λ r. ⌜ ((input : List ℕ) → take got (now (buffer .entry)) ≡ readOf input → r ≡ length (listed input)) ⌝ }
     ensures output { λ r. ⌜ ((input : List ℕ) → take got (now (buffer .entry)) ≡ readOf input
         → now (output .exit) ≡ listed input ++ drop r (now (output .entry))) ⌝ }
-    ensures within { λ r. ⌜ r ≤ outputRoom ⌝ }
+    ensures within { λ r. ⌜ r ≤ length (now (output .exit)) ⌝ }
 {
     listing(&buffer[..got], output)
 }

@@ -1,16 +1,9 @@
 -- `decode_listing::main` is safe and ends: the listing lies within the output. Assumes nothing.
-use mathlib.Core.Path.{_≡_, sym}
-use Prim.Native.Nat.{_≤_}
-use native.Mathlib.Omega.{arith}
-use lib.ListN.{length}
+use mathlib.Core.Path.{sym}
 use lib.Seq.{length-take-le}
-use Rattle.listing.specs.Sizes.{outputRoom}
 use borrow.Author.Needs.{needs}
 use Rattle.decode_listing.proofs.main.Statement.{statement}
 use Rattle.decode_listing.proofs.main.Tie as tie
-
-within : (c : tie.After-list-read) → c .list-read .result ≤ length (c .list-read .last .1 .1 .0)
-within c = let room : length (c .list-read .last .1 .1 .0) ≡ outputRoom = search needs in omega (arith, c .list-read .ensures .1 .1)
 
 slice-aggregate-read-full : tie.Need-slice-aggregate-read-full
 slice-aggregate-read-full c = search needs
@@ -25,10 +18,10 @@ list-read-requires : tie.Need-list-read-requires
 list-read-requires c κs = search needs
 
 array-share-prefix-output : tie.Need-array-share-prefix-output
-array-share-prefix-output c = within c
+array-share-prefix-output c = c .list-read .ensures .1 .1
 
 slice-aggregate-write-all : tie.Need-slice-aggregate-write-all
-slice-aggregate-write-all c = sym (length-take-le _ _ (within (c .before)))
+slice-aggregate-write-all c = sym (length-take-le _ _ (c .before .list-read .ensures .1 .1))
 
 write-all-requires : tie.Need-write-all-requires
 write-all-requires c κs = search needs

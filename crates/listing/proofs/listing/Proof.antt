@@ -4,7 +4,7 @@ use mathlib.Core.Bool.{false}
 use mathlib.Core.List.{List, _++_}
 use Prim.Native.Nat.{ℕ, _+_, _≤_, _<_}
 use native.Mathlib.Omega.{arith}
-use lib.ListN.{length, drop}
+use lib.ListN.{length, drop, length-append}
 use borrow.Author.Tests.{eq-eqb, ne-eqb}
 use Rattle.lists.proofs.Bools.{cond-yes, cond-no}
 use Rattle.lists.proofs.Splice.{splice-is}
@@ -17,18 +17,18 @@ use Rattle.listing.proofs.listing.Statement.{statement}
 use Rattle.listing.proofs.listing.Tie as tie
 
 abbrev Listed : List ℕ → List ℕ → List ℕ → ℕ → Type 0
-Listed input old new r = (r ≡ length (listed input)) × ((new ≡ listed input ++ drop r old) × (r ≤ outputRoom))
+Listed input old new r = (r ≡ length (listed input)) × ((new ≡ listed input ++ drop r old) × (r ≤ length new))
 
 -- the listing, put from the first place on
 put-listed : (input old text new : List ℕ) (r : ℕ) → text ≡ listed input → Put old 0 text new r → r ≤ outputRoom → length old ≡ outputRoom
     → Listed input old new r
-put-listed input old text new r e p h k = (
-  after ∙ ap length e,
-  (p .stored ∙ splice-is old 0 text (omega (arith, p .after)) ∙ (λ j. e j ++ drop (sym (p .after) j) old), h),
-)
+put-listed input old text new r e p h k = (after ∙ ap length e, (begins, omega (arith, after ∙ ap length e, ap length begins, length-append (listed input) (drop r old))))
   where
     after : r ≡ length text
     after = omega (arith, p .after)
+
+    begins : new ≡ listed input ++ drop r old
+    begins = p .stored ∙ splice-is old 0 text (omega (arith, p .after)) ∙ (λ j. e j ++ drop (sym (p .after) j) old)
 
 -- an incomplete input
 nine-listed : (input old new : List ℕ) (r : ℕ) → complete input ≡ false → Put old 0 onlyNine new r → length old ≡ outputRoom → Listed input old new r
