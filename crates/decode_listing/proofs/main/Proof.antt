@@ -1,5 +1,6 @@
 -- `decode_listing::main` is safe and ends: the listing lies within the output. Assumes nothing.
 use mathlib.Core.Path.{sym}
+use native.Mathlib.Omega.{arith}
 use lib.Seq.{length-take-le}
 use borrow.Author.Needs.{needs}
 use Rattle.decode_listing.proofs.main.Statement.{statement}
@@ -15,7 +16,7 @@ slice-aggregate-list-read : tie.Need-slice-aggregate-list-read
 slice-aggregate-list-read c = search needs
 
 list-read-requires : tie.Need-list-read-requires
-list-read-requires c κs = search needs
+list-read-requires c κs = (omega arith, omega arith)
 
 array-share-prefix-output : tie.Need-array-share-prefix-output
 array-share-prefix-output c = c .list-read .ensures .1 .1
