@@ -10,10 +10,10 @@ use lib.IntN.{ℤ, pos}
 use lib.ListN.{length, getD}
 use Rattle.lists.specs.Tabulate.{tabulate}
 use Rattle.lists.proofs.Bools.{cond-no}
-use Rattle.lists.proofs.Tabulate.{length-tabulate, getD-tabulate}
+use Rattle.lists.proofs.Tabulate.{length-tabulate, getD-tabulate, tabulated}
 use Rattle.lists.proofs.Walk.{below-or}
 use Rattle.mix_voice.specs.Mixed.{sampleAt, summed, voiced, ramped, pick, four, steadyAt, partAt, fadingPart, fadingAt, eitherAt, rampedAt}
-use Rattle.mix_voice.proofs.Turns.{Mixing, mix-turn, row-is, in-row, as-made}
+use Rattle.mix_voice.proofs.Turns.{Mixing, mix-turn, row-is, in-row}
 
 module _ (f0 f1 f2 f3 g0 g1 g2 g3 : Float) (frame : List ℤ) where
   fading-at : (k c i p : ℕ) → k % 640 / 160 ≡ c → k % 160 ≡ i → k % 160 * 2 + k / 160 % 2 ≡ p
@@ -44,7 +44,7 @@ pub unmarked : (marks : List Bool) (ramp gains : List Float) (frame old : List �
     → voiced gains frame old ≡ ramped marks ramp gains frame old
 unfolding voiced ramped
 unmarked marks ramp gains frame old z0 z1 z2 =
-    as-made (tabulate (λ k. summed (getD old k (pos 0)) (partAt gains frame k)) 1920) (λ k. summed (getD old k (pos 0)) (rampedAt marks ramp gains frame k)) 1920
+    tabulated (tabulate (λ k. summed (getD old k (pos 0)) (partAt gains frame k)) 1920) (λ k. summed (getD old k (pos 0)) (rampedAt marks ramp gains frame k)) 1920 (pos 0)
     (length-tabulate (λ k. summed (getD old k (pos 0)) (partAt gains frame k)) 1920)
     (λ k h. getD-tabulate (λ k. summed (getD old k (pos 0)) (partAt gains frame k)) 1920 k (pos 0) h ∙ ap (λ (n : ℤ). summed (getD old k (pos 0)) n) (sym (cond-no _ (partAt gains frame k) (off k h))))
   where

@@ -2,7 +2,6 @@ pub mod Closest
 pub mod Halved
 pub mod Quarter
 pub mod Product
-pub mod Seen
 pub mod Turns
 pub mod Silence
 pub mod Fades

@@ -9,6 +9,7 @@ use lib.Ieee.{Float, binary32, eq, mul}
 use lib.IntN.{ℤ, pos, negsuc, natAbs, _+ℤ_, +ℤ-idr}
 use lib.ListN.{length, getD}
 use lib.Signed.{mag}
+use Rattle.lists.proofs.Tabulate.{tabulated}
 use Rattle.numbers.specs.Casts.{cast-i32, single}
 use Rattle.numbers.specs.Literals.{+0}
 use Rattle.numbers.specs.Wrap.{wrap32}
@@ -16,7 +17,6 @@ use Rattle.numbers.proofs.Ranges.{wrap-self}
 use Rattle.numbers.proofs.Reach.{Reach, zero-reach, single-reach, mul-reach, cast-reach, only-zero}
 use Rattle.mixing.specs.Gain.{at-gain}
 use Rattle.mix_voice.specs.Mixed.{sampleAt, summed, pick, steadyAt, mixed}
-use Rattle.mix_voice.proofs.Turns.{as-made}
 
 abs-of : (z : ℤ) → mag z < 32768 → natAbs z ≤ 2147483648
 abs-of (pos n) h = omega arith
@@ -39,7 +39,7 @@ pub silent : (m : ℕ) (g0 g1 g2 g3 : Float) (frame old : List ℤ) → eq g0 +0
     → ((k : ℕ) → mag (getD frame k (pos 0)) < 32768) → ((k : ℕ) → mag (getD old k (pos 0)) < 2147483648)
     → old ≡ mixed m (steadyAt g0 g1 g2 g3 frame) old
 unfolding mixed
-silent m g0 g1 g2 g3 frame old z0 z1 z2 z3 long f o = as-made old _ 1920 long (λ k h. go k (eqb (k / 640) m))
+silent m g0 g1 g2 g3 frame old z0 z1 z2 z3 long f o = tabulated old _ 1920 (pos 0) long (λ k h. go k (eqb (k / 640) m))
   where
     part : ℕ → ℤ
     part k = steadyAt g0 g1 g2 g3 frame k

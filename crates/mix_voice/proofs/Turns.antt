@@ -2,10 +2,9 @@
 -- Assumes nothing.
 use mathlib.Core.Path.{_≡_, refl, sym, ap, _∙_, subst}
 use mathlib.Core.Bool.{Bool, true, false, cond}
-use mathlib.Core.List.{List, [], _∷_}
+use mathlib.Core.List.{List}
 use mathlib.Core.Logic.{⊎-elim}
-use Prim.Native.Nat.{ℕ, zero, suc, _+_, _-_, _*_, _/_, _%_, _≤_, _<_}
-use native.Mathlib.Nat.{zero-lt-suc, suc-le-suc-iff}
+use Prim.Native.Nat.{ℕ, _+_, _-_, _*_, _/_, _%_, _≤_, _<_}
 use native.Mathlib.Omega.{arith}
 use lib.Dec.{eqb}
 use lib.Ieee.{Float, nan}
@@ -14,7 +13,7 @@ use lib.ListN.{length, getD, set, length-set}
 use lib.Seq.{getD-set-same, getD-set-other}
 use borrow.Author.Tests.{eqb-true, eqb-false, eq-eqb, ne-eqb}
 use Rattle.lists.specs.Tabulate.{tabulate}
-use Rattle.lists.proofs.Tabulate.{length-tabulate, getD-tabulate}
+use Rattle.lists.proofs.Tabulate.{length-tabulate, getD-tabulate, tabulated}
 use Rattle.lists.proofs.Walk.{below-or}
 use Rattle.lists.proofs.Bools.{cond-yes, cond-no}
 use Rattle.mixing.specs.Gain.{at-gain}
@@ -66,14 +65,6 @@ module _ (place : ℕ → ℕ) (part : ℕ → ℤ) (old : List ℤ) where
           late : place k ≡ place j → ⊥
           late w = omega arith
       by-left k kl p false q = getD-set-other l j k x (pos 0) (eqb-false k j q) ∙ b .left k kl (omega arith)
-
--- a list is what its own values make
-pub tabulated : (l : List ℤ) (f : ℕ → ℤ) → ((k : ℕ) → k < length l → f k ≡ getD l k (pos 0)) → tabulate f (length l) ≡ l
-tabulated [] f h = refl
-tabulated (x ∷ l) f h = λ i. h 0 (zero-lt-suc (length l)) i ∷ tabulated l (λ k. f (suc k)) (λ k b. h (suc k) (suc-le-suc-iff .1 b)) i
-
-pub as-made : (l : List ℤ) (f : ℕ → ℤ) (n : ℕ) → length l ≡ n → ((k : ℕ) → k < n → getD l k (pos 0) ≡ f k) → l ≡ tabulate f n
-as-made l f n e h = sym (subst (λ (m : ℕ). tabulate f m ≡ l) e (tabulated l f (λ k b. sym (h k (subst (λ (m : ℕ). k < m) e b)))))
 
 -- ---- one mix, sample by sample, and of a sample channel by channel
 abbrev pub inMix : ℕ → ℕ → ℕ
@@ -137,7 +128,7 @@ module _ (m : ℕ) (part : ℕ → ℤ) (old : List ℤ) (small : m < 3) (long :
 
   pub mixed-is : (l : List ℤ) → Mixing 160 l → l ≡ mixed m part old
   unfolding mixed
-  mixed-is l b = as-made l (λ k. cond (eqb (k / 640) m) (summed (getD old k (pos 0)) (part k)) (getD old k (pos 0))) 1920 (b .same ∙ long) (λ k h. go k h (eqb (k / 640) m) refl)
+  mixed-is l b = tabulated l (λ k. cond (eqb (k / 640) m) (summed (getD old k (pos 0)) (part k)) (getD old k (pos 0))) 1920 (pos 0) (b .same ∙ long) (λ k h. go k h (eqb (k / 640) m) refl)
     where
       go : (k : ℕ) → k < 1920 → (c : Bool) → eqb (k / 640) m ≡ c → getD l k (pos 0) ≡ cond c (summed (getD old k (pos 0)) (part k)) (getD old k (pos 0))
       go k h true e = b .done k (omega (arith, long)) (omega (arith, eqb-true (k / 640) m e))
@@ -200,7 +191,7 @@ module _ (part : ℕ → ℤ) (old : List ℤ) (long : length old ≡ 1920) wher
           before = ⊎-elim (λ w. w) (λ w. absurd (eqb-false (k / 640) m q (omega arith))) (below-or (k / 640) m)
 
   pub all-mixes : (l : List ℤ) → Been byMix part old 3 l → l ≡ tabulate (λ k. summed (getD old k (pos 0)) (part k)) 1920
-  all-mixes l b = as-made l (λ k. summed (getD old k (pos 0)) (part k)) 1920 (b .same ∙ long) (λ k h. b .done k (subst (λ (n : ℕ). k < n) (sym long) h) (three k h))
+  all-mixes l b = tabulated l (λ k. summed (getD old k (pos 0)) (part k)) 1920 (pos 0) (b .same ∙ long) (λ k h. b .done k (subst (λ (n : ℕ). k < n) (sym long) h) (three k h))
     where
       three : (k : ℕ) → k < 1920 → k / 640 < 3
       three k h = omega arith
@@ -325,7 +316,7 @@ module _ (gains : List Float) (frame old : List ℤ) (long : length old ≡ 1920
       twelve = omega arith
 
   pub all-at-once : (l : List ℤ) → Together 1920 l → l ≡ tabulate (λ k. summed (getD old k (pos 0)) (partAt gains frame k)) 1920
-  all-at-once l b = as-made l (λ k. summed (getD old k (pos 0)) (partAt gains frame k)) 1920 (b .same ∙ long) (λ k h. b .done k (subst (λ (n : ℕ). k < n) (sym long) h) (in-time k h))
+  all-at-once l b = tabulated l (λ k. summed (getD old k (pos 0)) (partAt gains frame k)) 1920 (pos 0) (b .same ∙ long) (λ k h. b .done k (subst (λ (n : ℕ). k < n) (sym long) h) (in-time k h))
     where
       in-time : (k : ℕ) → k < 1920 → k % 160 * 12 + k / 160 < 1920
       in-time k h = omega arith

@@ -1,5 +1,4 @@
 // A voice's frame mixed into the mixes.
 pub mod cut;
 pub mod fade;
-pub mod ranged;
 pub mod steady;

@@ -3,4 +3,3 @@ pub mod Exactly
 pub mod Outcomes
 pub mod Traps
 pub mod Silent
-pub mod Ranged

@@ -1,9 +1,8 @@
 -- A mix at a volume that equals 0.0 adds nothing: each part is 0, and 0 added to a sample leaves it. Assumes nothing.
-use mathlib.Core.Path.{_≡_, refl, sym, ap, _∙_, subst}
+use mathlib.Core.Path.{_≡_, refl, sym, ap, _∙_}
 use mathlib.Core.Bool.{true, false}
-use mathlib.Core.List.{List, [], _∷_}
-use Prim.Native.Nat.{ℕ, suc, _+_, _*_, _/_, _%_, _^_, _≤_, _<_}
-use native.Mathlib.Nat.{zero-lt-suc, suc-le-suc-iff}
+use mathlib.Core.List.{List}
+use Prim.Native.Nat.{ℕ, _*_, _^_, _≤_, _<_}
 use native.Mathlib.Omega.{arith}
 use lib.Dec.{lit<}
 use lib.IntN.{ℤ, pos, negsuc, natAbs, _+ℤ_, +ℤ-idr}
@@ -12,14 +11,11 @@ use lib.Signed.{mag, ltZ}
 use borrow.Author.Tests.{le-ltb}
 use lib.Ieee.{Float, nan, inf, fin, binary32, add, mul, div, eq, ofInt, up, down, unlike}
 use lib.Ieee.Fits.{down-pos}
-use Rattle.lists.specs.Tabulate.{tabulate}
-use Rattle.lists.proofs.Tabulate.{length-tabulate, getD-tabulate}
-use Rattle.lists.proofs.Fill.{Filling, filling-none, filling-more, filling-next, filling-all}
+use Rattle.lists.proofs.Tabulate.{tabulated}
 use Rattle.numbers.specs.Casts.{cast-i32, single}
 use Rattle.numbers.specs.Literals.{+0}
 use Rattle.numbers.specs.Wrap.{clamp16}
 use Rattle.numbers.proofs.Reach.{Reach, zero-reach, single-reach, mul-reach, add-reach, round-reach, cast-reach, only-zero}
-use Rattle.mixer.specs.Mixes.{valueAt}
 use Rattle.mixer.specs.Downmix.{at-volume, mono, side, mono-part, stereo-part, added, partAt, mixedIn}
 use Rattle.mixer.specs.declared.state.Output.{Output}
 use Rattle.mixer.specs.declared.state.Output.the-variants.{Mono, Stereo}
@@ -78,13 +74,8 @@ part-silent : (o : Output) (v : Float) (mix : List ℤ) → Reach v 0 → ((k : 
 part-silent Mono v mix w m k = mono-silent v _ _ _ _ w (m _) (m _) (m _) (m _)
 part-silent Stereo v mix w m k = stereo-silent v _ _ w (m _) (m _)
 
--- a list is what its own values make
-tabulated : (l : List ℤ) (f : ℕ → ℤ) → ((k : ℕ) → k < length l → f k ≡ getD l k (pos 0)) → tabulate f (length l) ≡ l
-tabulated [] f h = refl
-tabulated (x ∷ l) f h = λ i. h 0 (zero-lt-suc (length l)) i ∷ tabulated l (λ k. f (suc k)) (λ k b. h (suc k) (suc-le-suc-iff .1 b)) i
-
 pub silent : (o : Output) (v : Float) (mix frame : List ℤ) → eq v +0 ≡ true → length frame ≡ 320 → ((k : ℕ) → mag (getD frame k (pos 0)) < 32768) → ((k : ℕ) → mag (getD mix k (pos 0)) < 2147483648) → frame ≡ mixedIn o v mix frame
 unfolding mixedIn
 silent o v mix frame z long f m =
-    sym (subst (λ (n : ℕ). tabulate (λ k. added (getD frame k (pos 0)) (partAt o v mix k)) n ≡ frame) long
-    (tabulated frame (λ k. added (getD frame k (pos 0)) (partAt o v mix k)) (λ k h. ap (added (getD frame k (pos 0))) (part-silent o v mix (zero-reach v z) m k) ∙ added-zero (getD frame k (pos 0)) (f k))))
+    tabulated frame (λ k. added (getD frame k (pos 0)) (partAt o v mix k)) 320 (pos 0) long
+    (λ k h. sym (ap (added (getD frame k (pos 0))) (part-silent o v mix (zero-reach v z) m k) ∙ added-zero (getD frame k (pos 0)) (f k)))

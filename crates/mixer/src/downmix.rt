@@ -4,12 +4,12 @@ use crate::state::Mixer;
 use crate::state::Output;
 use numbers::casts::cast_clamped;
 use numbers::casts::single_of_i32;
+use numbers::ranged::ranged16;
+use numbers::ranged::ranged32;
 use numbers::whole::clamped;
 ghost use mathlib.Core.Path.{_≡_};
-ghost use Prim.Native.Nat.{ℕ, _+_, _*_, _<_};
-ghost use lib.IntN.{pos};
-ghost use lib.ListN.{length, getD};
-ghost use lib.Signed.{mag};
+ghost use Prim.Native.Nat.{_+_, _*_, _<_};
+ghost use lib.ListN.{length};
 ghost use Rattle.mixer.specs.Sizes.{frameSamples, frameSize, mixSize};
 ghost use Rattle.mixer.specs.Downmix.{at-volume, mono-part, stereo-part, added, partAt, mixedIn, downmixed};
 
@@ -94,27 +94,6 @@ fn mix_in(frame: &mut [i16], mix: &[i32], volume: f32, output: Output)
         frame[k] = left;
         let right = added(frame[k + 1], s.right);
         frame[k + 1] = right;
-        i += 1;
-    }
-}
-
-// That all values of a frame or a mix are numbers of its type: nothing is done with them, and the compiler leaves nothing of the loop.
-fn ranged16(values: &[i16])
-    ensures { λ _. ⌜ ((k : ℕ) → mag (getD (now (values .entry)) k (pos 0)) < 32768) ⌝ }
-{
-    let mut i = 0;
-    while i < values.len() {
-        let seen = values[i];
-        i += 1;
-    }
-}
-
-fn ranged32(values: &[i32])
-    ensures { λ _. ⌜ ((k : ℕ) → mag (getD (now (values .entry)) k (pos 0)) < 2147483648) ⌝ }
-{
-    let mut i = 0;
-    while i < values.len() {
-        let seen = values[i];
         i += 1;
     }
 }

@@ -1,5 +1,6 @@
 // Numbers as the DSP has them.
 pub mod bits;
 pub mod casts;
+pub mod ranged;
 pub mod tests;
 pub mod whole;

@@ -1,9 +1,11 @@
-// That all values of a frame or of the mixes are numbers of their type: nothing is done with them, and the compiler leaves nothing of the loops.
+// That all values of a slice are numbers of its type, which is known of one value that is read. Nothing is done with them, and the compiler leaves nothing of
+// the loops.
 ghost use Prim.Native.Nat.{ℕ, _<_};
 ghost use lib.IntN.{pos};
 ghost use lib.ListN.{getD};
 ghost use lib.Signed.{mag};
 
+// `mag` is n of n, and n - 1 of -n: below 32768 it says -32768 to 32767.
 pub fn ranged16(values: &[i16])
     ensures { λ _. ⌜ ((k : ℕ) → mag (getD (now (values .entry)) k (pos 0)) < 32768) ⌝ }
 {
