@@ -5,7 +5,7 @@ use Prim.Native.Nat.{ℕ, zero, suc, _+_, _≤_, _<_, zero-le}
 use native.Mathlib.Nat.{le-of-suc-le-suc, not-suc-le-zero}
 use native.Mathlib.Numerals.{add-one}
 use native.Mathlib.Omega.{arith}
-use lib.ListN.{length, take, drop, getD, set, length-append, length-drop, length-set}
+use lib.ListN.{length, take, drop, getD, set, length-set}
 use lib.Seq.{take-length, drop-length, length-take-le, getD-append-add, getD-drop}
 
 module _ {A : Type 0} where
@@ -47,9 +47,6 @@ module _ {A : Type 0} where
 
       plus0 : i + 0 ≡ i
       plus0 = omega arith
-
-  pub length-filled : (goal old : List A) (i : ℕ) → i ≤ length goal → i ≤ length old → length (filled goal old i) ≡ length old
-  length-filled goal old i h k = length-append (take i goal) (drop i old) ∙ simp (length-take-le i goal h, length-drop) (omega arith)
 
 -- The invariant of such a loop: `old` is the list where the loop begins, `now` at its head, and `goal` what is wanted of it.
 pub record Filling {A : Type 0} (goal old now : List A) (i : ℕ) : Type 0 where

@@ -1,14 +1,14 @@
 -- The laws of `part` and `splice`, by induction on the stores: the same stores keep two equal parts equal, stores elsewhere keep a part, and
 -- within the list a splice is what a part lent on comes back as. Assumes nothing.
-use mathlib.Core.Path.{_≡_, refl, sym, ap, ap₂, _∙_, subst}
+use mathlib.Core.Path.{_≡_, refl, sym, ap, _∙_, subst}
 use mathlib.Core.List.{List, [], _∷_, _++_, append-assoc, append-nil}
 use mathlib.Core.Logic.{_⊎_, inl, inr}
 use Prim.Native.Nat.{ℕ, zero, suc, _+_, _-_, _≤_, _<_}
-use native.Mathlib.Nat.{add-assoc, add-sub-of-le}
+use native.Mathlib.Nat.{add-sub-of-le}
 use native.Mathlib.Decide.{decLt}
 use native.Mathlib.Omega.{arith}
-use lib.ListN.{length, getD, take, drop, set, length-take, length-drop, take-append-drop, drop-of-length-le}
-use lib.Seq.{sets, sets-eq, length-sets, length-take-le, take-at, drop-at, take-add, take-take, drop-drop, drop-append-le, drop-set-lt, drop-set-add, take-set-le, getD-take, getD-drop, drop-length}
+use lib.ListN.{length, getD, take, drop, set, length-take, length-drop, drop-of-length-le}
+use lib.Seq.{sets, sets-eq, length-sets, length-take-le, take-at, drop-at, drop-drop, drop-set-lt, drop-set-add, take-set-le, getD-take, getD-drop, drop-length}
 use Rattle.lists.specs.Splice.{part, splice}
 
 -- m elements from i on, and n from a on, share none
@@ -109,46 +109,6 @@ module _ {A : Type 0} where
       ap (λ r. take (length new) (drop a r)) (splice-is l a new h)
       ∙ ap (take (length new)) (drop-at (take a l) (new ++ drop (a + length new) l) a (length-take-le a l (omega arith)))
       ∙ take-at new (drop (a + length new) l) (length new) refl
-
-  -- a part put back as it was
-  pub splice-same : (a n : ℕ) (l : List A) → a + n ≤ length l → splice l a (part a n l) ≡ l
-  splice-same a n l h =
-      splice-is l a (take n (drop a l)) (omega (arith, length-part a n l h))
-      ∙ ap (λ z. take a l ++ (take n (drop a l) ++ drop (a + z) l)) (length-part a n l h)
-      ∙ ap (λ r. take a l ++ (take n (drop a l) ++ r)) (sym (drop-drop n a l))
-      ∙ ap (λ r. take a l ++ r) (take-append-drop n (drop a l)) ∙ take-append-drop a l
-
-  -- a part changed inside and put back: the change made in place
-  pub splice-part : (a n k : ℕ) (new l : List A) → a + n ≤ length l → k + length new ≤ n → splice l a (splice (part a n l) k new) ≡ splice l (a + k) new
-  splice-part a n k new l h q =
-      splice-is l a x (omega (arith, long))
-      ∙ ap₂ (λ y z. take a l ++ (y ++ drop z l)) inner (ap (λ z. a + z) long)
-      ∙ ap (λ r. take a l ++ r) (append-assoc (take k p) (new ++ drop (k + length new) p) (drop (a + n) l) ∙ ap (λ r. take k p ++ r) (append-assoc new (drop (k + length new) p) (drop (a + n) l)))
-      ∙ ap₂ (λ y z. take a l ++ (y ++ (new ++ z))) (take-take k n (drop a l) (omega arith)) rest
-      ∙ sym (append-assoc (take a l) (take k (drop a l)) (new ++ drop (a + k + length new) l))
-      ∙ ap (λ r. r ++ (new ++ drop (a + k + length new) l)) (sym (take-add a k l))
-      ∙ sym (splice-is l (a + k) new (omega arith))
-    where
-      p : List A
-      p = take n (drop a l)
-
-      x : List A
-      x = splice p k new
-
-      p-long : length p ≡ n
-      p-long = length-part a n l h
-
-      long : length x ≡ n
-      long = length-splice p k new ∙ p-long
-
-      inner : x ≡ take k p ++ (new ++ drop (k + length new) p)
-      inner = splice-is p k new (omega (arith, p-long))
-
-      rest : drop (k + length new) p ++ drop (a + n) l ≡ drop (a + k + length new) l
-      rest =
-          ap (λ r. drop (k + length new) p ++ r) (sym (drop-drop n a l))
-          ∙ sym (drop-append-le (k + length new) p (drop n (drop a l)) (omega (arith, p-long)))
-          ∙ ap (drop (k + length new)) (take-append-drop n (drop a l)) ∙ drop-drop (k + length new) a l ∙ ap (λ z. drop z l) (sym (add-assoc a k (length new)))
 
   -- ---- what a part lent on leaves
 

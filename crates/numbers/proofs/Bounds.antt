@@ -9,13 +9,13 @@ use lib.Signed.{mag, natAbs-le, shrZ, mag-shr}
 use mir.Syntax.{Width}
 use mir.Val.{SFits, hbits, toZ, ofZ}
 use mir.Facts.{toZ-ofZ}
-use lib.Dec.{T, ltb, leb, ltb→lt, leb→le}
+use lib.Dec.{T, ltb, ltb→lt}
 use borrow.Author.Tests.{lt-ltb, le-ltb}
 use Rattle.numbers.specs.Within.{Is}
 use Rattle.lists.proofs.Walk.{below-or}
 use Rattle.lists.proofs.Bools.{cond-yes, cond-no}
 
-abs-neg : (n : ℕ) → natAbs (negℤ (pos n)) ≡ n
+pub abs-neg : (n : ℕ) → natAbs (negℤ (pos n)) ≡ n
 abs-neg zero = refl
 abs-neg (suc n) = refl
 
@@ -94,10 +94,6 @@ is-param {w} {z} h = record { is = toZ-ofZ h; abs = subst (λ (y : ℤ). natAbs 
 pub is-pos : (n : ℕ) → Is n (pos n) (pos n)
 is-pos n = record { is = refl; abs = le-refl n }
 
--- a larger bound
-pub is-le : {z x : ℤ} {A : ℕ} (B : ℕ) → Is A z x → T (leb A B) → Is B z x
-is-le {z} {x} {A} B h k = record { is = h .is; abs = le-trans (h .abs) (leb→le A B k) }
-
 -- the same number by another name
 pub is-of : {y z x : ℤ} {A : ℕ} → z ≡ y → Is A z x → Is A y x
 is-of e h = record { is = h .is ∙ e; abs = h .abs }
@@ -115,6 +111,3 @@ pub shr-read : (w : Width) (z : ℤ) (m : ℕ) → mag z < 2 ^ hbits w → toZ w
 shr-read w z m h =
     toZ-ofZ (record { sfits = lt-of-le-of-lt (mag-shr (toZ w (ofZ w z)) m) (subst (λ (y : ℤ). mag y < 2 ^ hbits w) (sym (result-read w z h)) h) })
     ∙ ap (λ (y : ℤ). shrZ y m) (result-read w z h)
-
-pub is-shr : (w : Width) (m : ℕ) {z x : ℤ} {A : ℕ} → Is A z x → T (ltb A (2 ^ hbits w)) → toZ w (ofZ w (shrZ (toZ w (ofZ w x)) m)) ≡ shrZ z m
-is-shr w m {z} {x} h k = shr-read w x m (is-fits w h k .sfits) ∙ ap (λ (y : ℤ). shrZ y m) (h .is)

@@ -1,18 +1,20 @@
--- A rounded fraction never crosses a multiple of 2 ^ g units, where 2 ^ g is no finer than what the format keeps at its size. So it stays within 2 ^ g units of the fraction.
--- A unit is the format's smallest value, 2 ^ -low. Assumes nothing.
-use mathlib.Core.Path.{_≡_, refl, sym, ap, _∙_, subst}
-use mathlib.Core.Bool.{Bool, true, false}
-use Prim.Native.Nat.{ℕ, suc, _+_, _-_, _*_, _/_, _%_, _^_, _≤_, _<_, compare}
-use native.Mathlib.Nat.{le-trans, le-of-eq, lt-of-le-of-lt, mul-one, mul-comm, mul-assoc, mul-pos, mul-le-mul-right, le-of-mul-le-mul-right, div-mul-le-self, div-lt-iff-lt-mul, zero-lt-suc, add-mul, one-mul, div-add-mod', mod-lt, mul-lt-mul-of-pos-right}
+-- A rounded fraction never crosses a multiple of 2 ^ g units, where 2 ^ g is no finer than what the format keeps at its size: it is the nearest multiple of some
+-- 2 ^ k with k at most g. A unit is the format's smallest value, 2 ^ -low. Assumes nothing.
+use mathlib.Core.Path.{_≡_, refl, sym, ap, _∙_}
+use mathlib.Core.Bool.{Bool}
+use mathlib.Core.Logic.{⊎-elim}
+use Prim.Native.Nat.{ℕ, suc, _+_, _-_, _*_, _/_, _%_, _^_, _≤_, _<_}
+use native.Mathlib.Nat.{le-trans, le-of-eq, lt-of-lt-of-le, not-le-of-lt, mul-one, mul-comm, mul-assoc, mul-pos, mul-le-mul-right, le-div-iff-mul-le, div-lt-iff-lt-mul, zero-lt-suc}
 use native.Mathlib.Omega.{arith}
-use lib.Pow.{pow-pos, pow-add}
-use lib.Ieee.{Float, Format, prec, emax, low, size, round, nearest}
-use lib.Ieee.Digits.{size-le, back}
+use lib.Pow.{pow-pos, pow-add, pow-mono}
+use lib.Ieee.{Format, prec, low, size, round}
+use lib.Ieee.Digits.{size-lt, size-le, back}
 use lib.Ieee.Fits.{round-is}
 use lib.Ieee.Exact.{HasValue, units-val}
 use lib.Ieee.Nearest.{closest, closest-mono}
 use lib.Ieee.Order.{drop, kept}
 use lib.Ieee.Scale.{grid, overflow}
+use Rattle.lists.proofs.Walk.{below-or}
 
 -- a whole number is its own nearest
 whole-closest : (x : ℕ) → closest x 1 ≡ x
@@ -38,6 +40,19 @@ module _ (f : Format) (n d g : ℕ) (D : 0 < d) (small : n * 2 ^ low f < 2 ^ (pr
       spare : (z p l : ℕ) → z ≤ p + l → z - p ≤ l
       spare z p l h = omega arith
 
+  -- where it has as many digits as the format keeps and g more, k is g
+  pub drops-all : (h : ℕ) → prec f ≡ suc h → 2 ^ (h + g) * d ≤ N → k ≡ g
+  drops-all h P least = both k (size (N / d)) (prec f) g drops refl (⊎-elim (λ x. absurd (few x)) (λ x. x) (below-or (size (N / d)) (prec f + g)))
+    where
+      both : (k z p l : ℕ) → k ≤ l → k ≡ z - p → p + l ≤ z → k ≡ l
+      both k z p l x e y = omega arith
+
+      few : size (N / d) < prec f + g → ⊥
+      few x = not-le-of-lt (lt-of-lt-of-le (size-lt (N / d)) (pow-mono {i = size (N / d)} {j = h + g} (under (size (N / d)) (prec f) x P))) (le-div-iff-mul-le D .1 least)
+        where
+          under : (z p : ℕ) → z < p + g → p ≡ suc h → z ≤ h + g
+          under z p x e = omega arith
+
   -- c * 2 ^ g, in multiples of 2 ^ k
   in-k : (c : ℕ) → c * 2 ^ (g - k) * 2 ^ k ≡ c * 2 ^ g
   in-k c = mul-assoc c (2 ^ (g - k)) (2 ^ k) ∙ ap (λ (x : ℕ). c * x) (sym (pow-add 2 (g - k) k) ∙ ap (λ (x : ℕ). 2 ^ x) (back g k drops))
@@ -57,37 +72,3 @@ module _ (f : Format) (n d g : ℕ) (D : 0 < d) (small : n * 2 ^ low f < 2 ^ (pr
       let m = c * 2 ^ (g - k) in
       let e : closest m 1 ≤ closest N (d * 2 ^ k) = closest-mono m 1 N (d * 2 ^ k) (zero-lt-suc 0) (mul-pos D (pow-pos k)) (le-trans (le-of-eq (sym (across c))) (le-trans h (le-of-eq (sym (mul-one N))))) in
       le-trans (le-of-eq (sym (in-k c))) (mul-le-mul-right (2 ^ k) (le-trans (le-of-eq (sym (whole-closest m))) e))
-
--- ---- a fraction n / 2 ^ low, n units: the rounded value is within 2 ^ g units
-module _ (f : Format) (n g : ℕ) (small : n < 2 ^ (prec f + g)) where
-  abbrev l : ℕ
-  l = 2 ^ low f
-
-  scaled : n * l < 2 ^ (prec f + g) * l
-  scaled = mul-lt-mul-of-pos-right small (pow-pos (low f))
-
-  abbrev q : ℕ
-  q = n / 2 ^ g
-
-  pub near-le : grid f n l ≤ n + 2 ^ g
-  near-le =
-      let h : n ≤ (q + 1) * 2 ^ g = (let e = div-add-mod' n (2 ^ g) in let r = mod-lt n (pow-pos g) in rw (add-mul q 1 (2 ^ g), one-mul (2 ^ g)) (omega arith)) in
-      le-trans (cell-le f n l g (pow-pos (low f)) scaled (q + 1) (mul-le-mul-right l h))
-      (rw (add-mul q 1 (2 ^ g), one-mul (2 ^ g)) (let e = div-mul-le-self n (2 ^ g) in omega arith))
-
-  pub near-ge : n ≤ grid f n l + 2 ^ g
-  near-ge =
-      let h = cell-ge f n l g (pow-pos (low f)) scaled q (mul-le-mul-right l (div-mul-le-self n (2 ^ g))) in
-      let e = div-add-mod' n (2 ^ g) in
-      let r = mod-lt n (pow-pos g) in
-      rest (q * 2 ^ g) (grid f n l) (n % 2 ^ g) h e r
-    where
-      rest : (a b c : ℕ) → a ≤ b → a + c ≡ n → c < 2 ^ g → n ≤ b + 2 ^ g
-      rest a b c h e r = omega arith
-
-  -- the two with the value
-  abbrev pub Near : Bool → Float → Type 0
-  Near s x = (G : ℕ) × HasValue x s G l × (G ≤ n + 2 ^ g) × (n ≤ G + 2 ^ g)
-
-  pub round-near : (s : Bool) → n + 2 ^ g < overflow f → Near s (round f s n l)
-  round-near s h = (grid f n l, round-value f s n l (lt-of-le-of-lt near-le h), near-le, near-ge)

@@ -1,27 +1,24 @@
 -- The whole part of a number from 0 to M by two additions, in either format: at 2 ^ h and above (h = 23 in f32, 52 in f64) it has no digit below 1, so
 -- a + 2 ^ h is a whole number next to it, and 2 ^ h comes off it exactly. What is left is the whole part, or one more where it lies above a. Assumes nothing.
 use mathlib.Core.Path.{_≡_, refl, sym, ap, _∙_, subst}
-use mathlib.Core.Bool.{Bool, true, false, not, _&&_, cond, true≢false}
-use mathlib.Core.Logic.{⊎-elim}
-use Prim.Native.Nat.{ℕ, zero, suc, _+_, _-_, _*_, _/_, _%_, _^_, _≤_, _<_}
-use native.Mathlib.Nat.{le-trans, le-of-eq, lt-of-lt-of-le, lt-of-le-of-lt, lt-irrefl, not-le-of-lt, mul-one, one-mul, zero-mul, zero-add, mul-comm, mul-assoc, mul-right-comm, mul-pos, mul-le-mul-right, mul-lt-mul-of-pos-right, le-of-mul-le-mul-right, lt-of-mul-lt-mul-right, eq-of-mul-eq-mul-right, le-div-iff-mul-le, div-mul-le-self, div-lt-iff-lt-mul, zero-lt-suc, add-mul, pow-succ'}
+use mathlib.Core.Bool.{Bool, true, false, _&&_}
+use Prim.Native.Nat.{ℕ, zero, suc, _+_, _-_, _*_, _/_, _^_, _≤_, _<_}
+use native.Mathlib.Nat.{le-trans, le-of-eq, lt-of-lt-of-le, lt-of-le-of-lt, mul-one, one-mul, zero-mul, zero-add, mul-comm, mul-assoc, mul-right-comm, mul-pos, mul-le-mul-right, mul-lt-mul-of-pos-right, le-of-mul-le-mul-right, lt-of-mul-lt-mul-right, eq-of-mul-eq-mul-right, le-div-iff-mul-le, div-mul-le-self, div-lt-iff-lt-mul, zero-lt-suc, add-mul, pow-succ'}
 use native.Mathlib.Omega.{arith}
 use lib.IntN.{ℤ, pos, negℤ}
-use lib.Dec.{T, ltb}
+use lib.Dec.{ltb}
 use lib.Pow.{pow-pos, pow-add, pow-mono}
 use borrow.Author.Tests.{lt-ltb, le-ltb, ltb-true, ltb-false}
-use lib.Ieee.{Float, nan, inf, fin, Format, prec, emax, low, up, down, size, round, sum, add, sub, ofInt, lt, below}
-use lib.Ieee.Digits.{size-lt}
+use lib.Ieee.{Float, nan, inf, fin, Format, prec, emax, low, up, down, round, sum, add, sub, ofInt, lt, below}
 use lib.Ieee.Fits.{down-pos}
 use lib.Ieee.Exact.{HasValue}
 use lib.Ieee.Order.{drop, kept}
 use lib.Ieee.Scale.{grid, overflow}
 use lib.Ieee.Back.{round-whole}
 use Rattle.lists.proofs.Bools.{cond-yes}
-use Rattle.lists.proofs.Walk.{below-or}
 use Rattle.numbers.specs.Literals.{+0}
 use Rattle.numbers.specs.Held.{Upto, wholeOf}
-use Rattle.numbers.proofs.Cell.{drops, cell-le, cell-ge, round-value}
+use Rattle.numbers.proofs.Cell.{drops-all, cell-le, cell-ge, round-value}
 use Rattle.numbers.proofs.Value.{add-value, sub-value}
 
 -- 2 ^ h
@@ -104,22 +101,10 @@ module _ (f : Format) (h : ℕ) (P : prec f ≡ suc h) (E : h ≤ emax f) where
     K = kept (prec f) (n * L) q
 
     drop-is : drop (prec f) (n * L) q ≡ low f
-    drop-is = both (drop (prec f) (n * L) q) (size (n * L / q)) (prec f) (low f) (drops f n q (low f) Q room) refl (⊎-elim (λ x. absurd (few x)) (λ x. x) (below-or (size (n * L / q)) (prec f + low f)))
+    drop-is = drops-all f n q (low f) Q room h P (subst (λ (x : ℕ). x * q ≤ n * L) (sym (pow-add 2 h (low f))) (times-ge n B q L many))
       where
-        both : (d z P l : ℕ) → d ≤ l → d ≡ z - P → P + l ≤ z → d ≡ l
-        both d z P l x e k = omega arith
-
         many : B * q ≤ n
         many = omega arith
-
-        digits : 2 ^ (h + low f) ≤ n * L / q
-        digits = le-div-iff-mul-le Q .1 (subst (λ (x : ℕ). x * q ≤ n * L) (sym (pow-add 2 h (low f))) (times-ge n B q L many))
-
-        few : size (n * L / q) < prec f + low f → ⊥
-        few x = not-le-of-lt (lt-of-lt-of-le (size-lt (n * L / q)) (pow-mono {i = size (n * L / q)} {j = h + low f} (under (size (n * L / q)) (prec f) (low f) x P))) digits
-          where
-            under : (z c l : ℕ) → z < c + l → c ≡ suc h → z ≤ h + l
-            under z c l x e = omega arith
 
     grid-is : grid f n q ≡ K * L
     grid-is = ap (λ (k : ℕ). K * 2 ^ k) drop-is

@@ -1,15 +1,15 @@
 -- The tests of a float as the code makes them, and as other laws of floats take them, are the tests defined: shown by the kinds of float. Assumes nothing.
-use mathlib.Core.Path.{_≡_, refl, sym, _∙_}
-use mathlib.Core.Bool.{Bool, true, false, not, _&&_, _||_}
-use Prim.Native.Nat.{ℕ, zero, suc, _+_, _*_, _≤_, _<_}
-use native.Mathlib.Nat.{mul-le-mul-left, zero-lt-suc}
+use mathlib.Core.Path.{_≡_, refl, sym, _∙_, subst}
+use mathlib.Core.Bool.{Bool, true, false, not, _&&_, _||_, true≢false}
+use Prim.Native.Nat.{ℕ, zero, suc, _+_, _*_}
+use native.Mathlib.Nat.{zero-lt-suc}
 use native.Mathlib.Omega.{arith}
-use lib.Dec.{ltb, eqb}
+use lib.IntN.{ℤ}
+use lib.Dec.{T, ltb, eqb, eqb→eq}
 use lib.Ieee.{Float, nan, inf, fin, up, down, lt, le, eq, isNan}
-use lib.Ieee.Fits.{up-pos}
+use lib.Ieee.Fits.{and-l}
 use lib.Ieee.Scale.{finite}
-use lib.Ieee.Positive.{positive, first-pos}
-use borrow.Author.Tests.{ltb-true, ltb-false, lt-ltb, le-ltb, ne-eqb}
+use borrow.Author.Tests.{lt-ltb, le-ltb, ne-eqb}
 use Rattle.lists.proofs.Bools.{and-yes, and-no}
 use Rattle.numbers.specs.Literals.{+0}
 use Rattle.numbers.specs.Tests.{is-rate, is-fraction}
@@ -44,37 +44,6 @@ pub rate-not-above : (x : Float) → lt +0 x ≡ false → is-rate x ≡ false
 unfolding is-rate
 rate-not-above x h = and-no (finite x) h
 
-positive-not-above : (x : Float) → lt +0 x ≡ false → positive x ≡ false
-unfolding lt
-positive-not-above nan h = refl
-positive-not-above (inf s) h = refl
-positive-not-above (fin true m e) h = refl
-positive-not-above (fin false m e) h = le-ltb 0 m (none m (up e) (down e) (up-pos e) (ltb-false (0 * 1 * down e) (m * up e * 1) h))
-  where
-    none : (m u d : ℕ) → 0 < u → m * u * 1 ≤ 0 * 1 * d → m ≤ 0
-    none m u d U h =
-        let k : m * 1 ≤ m * u = mul-le-mul-left m U in
-        omega arith
-
-positive-above : (x : Float) → lt +0 x ≡ true → lt x (inf false) ≡ positive x
-unfolding lt
-positive-above nan h = refl
-positive-above (inf true) h = sym h
-positive-above (inf false) h = refl
-positive-above (fin true m e) h = sym h
-positive-above (fin false m e) h = sym (lt-ltb 0 m (first-pos m (up e) (some (m * up e) (down e) (ltb-true (0 * 1 * down e) (m * up e * 1) h))))
-  where
-    some : (n d : ℕ) → 0 * 1 * d < n * 1 → 0 < n
-    some n d h = omega arith
-
--- as the laws of positive floats take it
-pub rate-form : (x : Float) → positive x ≡ is-rate x
-rate-form x = by-test (lt +0 x) refl
-  where
-    by-test : (b : Bool) → lt +0 x ≡ b → positive x ≡ is-rate x
-    by-test true h = sym (positive-above x h) ∙ rate-above x h
-    by-test false h = positive-not-above x h ∙ sym (rate-not-above x h)
-
 -- ---- a fraction: 0 or above, where -0 is not below 0
 zed : (d : ℕ) → 0 * 1 * d ≡ 0
 zed d = omega arith
@@ -95,3 +64,12 @@ fraction-form (inf true) = refl
 fraction-form (inf false) = refl
 fraction-form (fin true m e) = rw (zed (down e)) (minus (m * up e * 1))
 fraction-form (fin false m e) = rw (zed (down e), at-or-above (m * up e * 1), le-ltb (m * up e * 1) 0 (omega arith))
+
+-- a number that passes it has no sign, or is a zero
+pub plus-or-zero : (s : Bool) (m : ℕ) (e : ℤ) → le +0 (fin s m e) ≡ true → s ≡ true → m * up e ≡ 0
+unfolding le lt eq
+plus-or-zero false m e h t = absurd (true≢false (sym t))
+plus-or-zero true m e h t = tidy (m * up e) (down e) (eqb→eq (0 * 1 * down e) (m * up e * 1) (and-l (eqb (0 * 1 * down e) (m * up e * 1)) (eqb (0 * 1 * down e) 0) (subst T (sym h) tt)))
+  where
+    tidy : (p q : ℕ) → 0 * 1 * q ≡ p * 1 → p ≡ 0
+    tidy p q h = omega arith

@@ -1,17 +1,16 @@
 -- A whole number's nearest f32 from its two halves: each is a float exactly, and so is the upper one times 2 ^ 16, so only the sum rounds. Assumes nothing.
-use mathlib.Core.Path.{_≡_, refl, sym, ap, _∙_, subst}
-use mathlib.Core.Bool.{Bool, true, false, _&&_, cond}
-use Prim.Native.Nat.{ℕ, suc, _+_, _-_, _*_, _/_, _%_, _^_, _≤_, _<_}
-use native.Mathlib.Nat.{le-trans, lt-of-le-of-lt, mul-one, mul-assoc, mul-le-mul-right, zero-lt-suc, div-add-mod', mod-lt}
+use mathlib.Core.Path.{_≡_, refl, sym, ap, _∙_}
+use mathlib.Core.Bool.{Bool, true, false, _&&_}
+use Prim.Native.Nat.{ℕ, suc, _-_, _*_, _/_, _%_, _^_, _≤_, _<_}
+use native.Mathlib.Nat.{lt-of-le-of-lt, mul-one, mul-assoc, mul-le-mul-right, zero-lt-suc, div-add-mod'}
 use native.Mathlib.Omega.{arith}
 use lib.IntN.{ℤ, pos, negsuc, natAbs}
 use lib.Dec.{T, ltb, lit<, le→leb, lt→ltb}
-use lib.Pow.{pow-pos}
 use lib.Signed.{shrZ, mag}
 use borrow.Author.Tests.{lt-ltb, le-ltb}
 use lib.Ieee.{Float, fin, binary32, round, unlike, sum, add, mul, ofInt, inFloat}
 use lib.Ieee.Exact.{HasValue, round-exact}
-use Rattle.lists.proofs.Bools.{cond-yes, cond-no}
+use Rattle.lists.proofs.Bools.{cond-no}
 use Rattle.numbers.specs.Wrap.{modZ}
 use Rattle.numbers.proofs.Value.{add-value, mul-value, int-value, below-0}
 

@@ -1,12 +1,12 @@
 -- A float held to what 16 bits reach is small, and its whole part with the sign back is the cast clamped to 16 bits. By the kinds of float. Assumes nothing.
 use mathlib.Core.Path.{_≡_, refl, sym, ap, _∙_, subst}
-use mathlib.Core.Bool.{Bool, true, false, not, _&&_, _||_, cond, true≢false}
-use Prim.Native.Nat.{ℕ, zero, suc, _+_, _-_, _*_, _/_, _^_, _≤_, _<_, min}
-use native.Mathlib.Nat.{le-trans, mul-one, one-mul, zero-div, div-lt-iff-lt-mul, le-div-iff-mul-le, mul-comm, mul-pos}
+use mathlib.Core.Bool.{Bool, true, false, cond, true≢false}
+use Prim.Native.Nat.{ℕ, zero, suc, _+_, _*_, _/_, _^_, _≤_, _<_, min}
+use native.Mathlib.Nat.{zero-div, div-lt-iff-lt-mul, le-div-iff-mul-le}
 use native.Mathlib.Omega.{arith}
 use lib.IntN.{ℤ, pos, negsuc, negℤ}
-use lib.Dec.{T, ltb, eqb, lit≤, le→leb, lt→ltb}
-use lib.Signed.{ltZ, mag}
+use lib.Dec.{T, ltb, lit≤, le→leb, lt→ltb}
+use lib.Signed.{mag}
 use lib.Ieee.Back.{positive-back, negative-back}
 use Rattle.numbers.proofs.Floor.{minus-whole}
 use borrow.Author.Tests.{eq-eqb, lt-ltb, le-ltb, ltb-true, ltb-false}
@@ -15,7 +15,7 @@ use lib.Ieee.Fits.{down-pos}
 use mathlib.Core.Logic.{⊎-elim}
 use Rattle.lists.proofs.Walk.{below-or}
 use Rattle.numbers.specs.Literals.{+0}
-use Rattle.numbers.specs.Held.{top, bottom, at-most, at-least, held, sizeOf, Upto, Small, wholeOf, withSign, at-least-0, top-u32, at-most-u32}
+use Rattle.numbers.specs.Held.{top, bottom, at-most, held, sizeOf, Upto, Small, wholeOf, withSign, at-least-0, top-u32}
 use Rattle.numbers.specs.Wrap.{clamp16}
 
 clamp-pos : (k : ℕ) → k ≤ 32767 → clamp16 (pos k) ≡ pos k
@@ -200,13 +200,13 @@ clamped-cast (fin true m e) = ⊎-elim few many (below-or (m * up e / down e) 32
 
 -- ---- to 32 bits with no sign: held from 0 to 4294967295
 record HoldsU (x : Float) : Type 0 where
-  pub upto : Upto 4294967295 (at-most-u32 (at-least-0 x))
-  pub is : wholeOf (at-most-u32 (at-least-0 x)) ≡ toUnsigned 32 x
+  pub upto : Upto 4294967295 (at-most top-u32 (at-least-0 x))
+  pub is : wholeOf (at-most top-u32 (at-least-0 x)) ≡ toUnsigned 32 x
 
-from-u : (x z : Float) → at-most-u32 (at-least-0 x) ≡ z → Upto 4294967295 z → wholeOf z ≡ toUnsigned 32 x → HoldsU x
+from-u : (x z : Float) → at-most top-u32 (at-least-0 x) ≡ z → Upto 4294967295 z → wholeOf z ≡ toUnsigned 32 x → HoldsU x
 from-u x z h u is = record { upto = subst (λ (a : Float). Upto 4294967295 a) (sym h) u; is = ap (λ (a : Float). wholeOf a) h ∙ is }
 
-zero-held : at-most-u32 +0 ≡ +0
+zero-held : at-most top-u32 +0 ≡ +0
 unfolding lt
 zero-held = refl
 
@@ -245,10 +245,10 @@ holds-u (inf false) = from-u (inf false) top-u32 refl ((λ (u : false ≡ true).
 holds-u (fin true m e) = from-u (fin true m e) +0 refl ((λ (u : false ≡ true). refl), lit≤ tt) refl
 holds-u (fin false m e) = positive-u m e (lt +0 (fin false m e)) (lt (fin false m e) top-u32) refl refl
 
-pub upto-u32 : (x : Float) → Upto 4294967295 (at-most-u32 (at-least-0 x))
+pub upto-u32 : (x : Float) → Upto 4294967295 (at-most top-u32 (at-least-0 x))
 upto-u32 x = holds-u x .upto
 
-pub whole-u32-is : (x : Float) → wholeOf (at-most-u32 (at-least-0 x)) ≡ toUnsigned 32 x
+pub whole-u32-is : (x : Float) → wholeOf (at-most top-u32 (at-least-0 x)) ≡ toUnsigned 32 x
 whole-u32-is x = holds-u x .is
 
 -- a number of 16 bits as an f64 and back

@@ -1,20 +1,20 @@
 -- Bounds that rounding keeps: `Reach x c` says that x is finite and its size at most the whole number c. Assumes nothing.
-use mathlib.Core.Path.{_≡_, refl, sym, ap, _∙_, subst}
-use mathlib.Core.Bool.{Bool, true, false, not, _&&_, _||_, cond, Bool·beq, true≢false}
-use Prim.Native.Nat.{ℕ, zero, suc, _+_, _-_, _*_, _/_, _^_, _≤_, _<_, min}
-use native.Mathlib.Nat.{le-trans, le-of-eq, lt-of-le-of-lt, lt-of-lt-of-le, mul-one, one-mul, mul-comm, mul-assoc, mul-right-comm, mul-left-comm, mul-pos, mul-mul-mul-comm, add-mul, mul-le-mul, mul-le-mul-right, mul-lt-mul-of-pos-right, le-of-mul-le-mul-right, div-le-of-le-mul, zero-lt-suc, sub-le}
+use mathlib.Core.Path.{_≡_, sym, ap, _∙_, subst}
+use mathlib.Core.Bool.{Bool, true, false, _&&_, _||_, cond, Bool·beq, true≢false}
+use Prim.Native.Nat.{ℕ, suc, _+_, _-_, _*_, _/_, _^_, _≤_, _<_, min}
+use native.Mathlib.Nat.{le-trans, le-of-eq, lt-of-le-of-lt, lt-of-lt-of-le, mul-one, one-mul, mul-comm, mul-assoc, mul-right-comm, mul-pos, mul-mul-mul-comm, add-mul, mul-le-mul, mul-le-mul-right, mul-lt-mul-of-pos-right, le-of-mul-le-mul-right, div-le-of-le-mul, zero-lt-suc}
 use native.Mathlib.Omega.{arith}
 use lib.IntN.{ℤ, pos, negsuc, negℤ, natAbs}
-use lib.Dec.{T, ltb, eqb, eqb→eq, lit<, lit≤}
+use lib.Dec.{T, ltb, eqb, eqb→eq, lit≤}
 use lib.Pow.{pow-pos, pow-add, pow-mono, pow-lt}
-use lib.Ieee.{Float, nan, inf, fin, Format, binary32, binary64, prec, emax, low, up, down, unlike, round, neg, sum, add, sub, mul, div, ofInt, toSigned, eq}
-use lib.Ieee.Fits.{down-pos, up-pos, and-l}
+use lib.Ieee.{Float, nan, inf, fin, Format, binary32, binary64, prec, emax, low, up, down, unlike, round, sum, add, mul, ofInt, toSigned, eq}
+use lib.Ieee.Fits.{down-pos, and-l}
 use lib.Ieee.Exact.{HasValue}
-use lib.Ieee.Scale.{grid, overflow}
+use lib.Ieee.Scale.{grid}
 use Rattle.numbers.specs.Casts.{single}
 use Rattle.numbers.specs.Literals.{+0}
+use Rattle.numbers.proofs.Bounds.{abs-neg}
 use Rattle.numbers.proofs.Cell.{cell-le, round-value}
-use Rattle.numbers.proofs.Value.{below-0, int-value}
 
 abbrev pub Reach : Float → ℕ → Type 0
 Reach nan c = ⊥
@@ -40,12 +40,6 @@ round-reach f s n d c D h C =
     of-value (round f s n d) s (grid f n d) l c (pow-pos (low f)) (round-value f s n d (lt-of-le-of-lt g (lt-of-lt-of-le wide (pow-mono (fine f))))) g
 
 -- ---- the operations
-pub neg-reach : (x : Float) (c : ℕ) → Reach x c → Reach (neg x) c
-unfolding neg
-neg-reach nan c h = h
-neg-reach (inf s) c h = h
-neg-reach (fin s m e) c h = h
-
 sum-reach : (f : Format) (s : Bool) (x : ℕ) (t : Bool) (y C c : ℕ) → 0 < C → x + y ≤ c * C → c < 2 ^ prec f → Reach (sum f s x t y C) c
 unfolding sum
 sum-reach f s x t y C c D h k = go (Bool·beq s t) (ltb x y)
@@ -71,10 +65,6 @@ add-reach f (fin s m e) (fin t n d) a b h k l =
     both : (p q r s : ℕ) → p ≤ r → q ≤ s → p + q ≤ r + s
     both p q r s h k = omega arith
 
-pub sub-reach : (f : Format) (x y : Float) (a b : ℕ) → Reach x a → Reach y b → a + b < 2 ^ prec f → Reach (sub f x y) (a + b)
-unfolding sub
-sub-reach f x y a b h k l = add-reach f x (neg y) a b h (neg-reach y b k) l
-
 pub mul-reach : (f : Format) (x y : Float) (a b : ℕ) → Reach x a → Reach y b → a * b < 2 ^ prec f → Reach (mul f x y) (a * b)
 unfolding mul
 mul-reach f nan y a b h k l = absurd h
@@ -84,19 +74,12 @@ mul-reach f (fin s m e) (inf t) a b h k l = absurd k
 mul-reach f (fin s m e) (fin t n d) a b h k l =
     round-reach f (unlike s t) (m * up e * (n * up d)) (down e * down d) (a * b) (mul-pos (down-pos e) (down-pos d)) (le-trans (mul-le-mul h k) (le-of-eq (mul-mul-mul-comm a (down e) b (down d)))) l
 
-pub int-reach : (f : Format) (z : ℤ) (c : ℕ) → natAbs z ≤ c → c ≤ 2 ^ prec f → Reach (ofInt f z) c
-int-reach f z c h k = of-value (ofInt f z) (below-0 z) (natAbs z) 1 c (zero-lt-suc 0) (int-value f z (le-trans h k)) (le-trans h (le-of-eq (sym (mul-one c))))
-
 pub cast-reach : (h : ℕ) (x : Float) (c : ℕ) → Reach x c → natAbs (toSigned h x) ≤ c
 unfolding toSigned
 cast-reach h nan c w = absurd w
 cast-reach h (inf s) c w = absurd w
 cast-reach h (fin s m e) c w = go s (div-le-of-le-mul (down e) (le-trans w (le-of-eq (mul-comm c (down e)))))
   where
-    abs-neg : (k : ℕ) → natAbs (negℤ (pos k)) ≡ k
-    abs-neg zero = refl
-    abs-neg (suc k) = refl
-
     go : (b : Bool) → m * up e / down e ≤ c → natAbs (cond b (negℤ (pos (min (m * up e / down e) (2 ^ h)))) (pos (min (m * up e / down e) (2 ^ h - 1)))) ≤ c
     go true q = rw (abs-neg (min (m * up e / down e) (2 ^ h))) (omega arith)
     go false q = omega arith

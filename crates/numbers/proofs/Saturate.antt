@@ -8,8 +8,8 @@ use native.Mathlib.Omega.{arith}
 use lib.IntN.{ℤ, pos, negℤ}
 use lib.Dec.{T, ltb, eqb, ltb→lt, lt→ltb, nltb→le, eqb→eq, T-not}
 use lib.Pow.{pow-pos, pow-mono}
-use lib.Ieee.{Float, nan, inf, fin, up, down, lt, eq, le, toSigned, toUnsigned}
-use lib.Ieee.Fits.{down-pos, and-r}
+use lib.Ieee.{Float, nan, inf, fin, up, down, lt, eq, le, toSigned}
+use lib.Ieee.Fits.{down-pos}
 use lib.Ieee.Casts.{toSigned-in}
 use lib.Signed.{mag}
 use mir.Syntax.{Width, w64}
@@ -169,39 +169,6 @@ module _ (h : ℕ) where
       clash p n d x y = omega arith
   none (fin false m e) a b =
       absurd (T-not (ltb 0 (1 * 2 ^ h * down e + m * up e * 1)) (not-or (ltb 0 (1 * 2 ^ h * down e + m * up e * 1)) _ a) (lt→ltb 0 (1 * 2 ^ h * down e + m * up e * 1) (some (2 ^ h) (down e) (m * up e * 1) (pow-pos h) (down-pos e))))
-
--- ---- the same with no sign: w bits, of an x that is at least 1
-module _ (w : ℕ) where
-  pub within-u : w ≤ 64 → (x : Float) → T (le (past 0) x) → T (lt x (past w)) → toUnsigned 64 x ≡ toUnsigned w x
-  unfolding le lt eq toUnsigned
-  within-u W nan a b = absurd a
-  within-u W (inf true) a b = absurd a
-  within-u W (inf false) a b = absurd b
-  within-u W (fin true m e) a b = refl
-  within-u W (fin false m e) a b = capped (m * up e / down e) (2 ^ w) (2 ^ 64) (quotient-lt (m * up e) (down e) (2 ^ w) (down-pos e) (ltb→lt (m * up e * 1) (1 * 2 ^ w * down e) b)) (pow-mono W)
-
-  -- what `std::num` asks
-  pub asked-u : w ≤ 64 → (x : Float) → T (le (past 0) x) → T (lt x (past w)) → T (lt (lowest 0) x) × T (lt x (past 64))
-  unfolding le lt eq
-  asked-u W nan a b = absurd a
-  asked-u W (inf true) a b = absurd a
-  asked-u W (inf false) a b = absurd b
-  asked-u W (fin true m e) a b = absurd (nothing (down e) (down-pos e) (eqb→eq (1 * 1 * down e) 0 (and-r (eqb (1 * 1 * down e) (m * up e * 1)) (eqb (1 * 1 * down e) 0) a)))
-    where
-      nothing : (d : ℕ) → 0 < d → 1 * 1 * d ≡ 0 → ⊥
-      nothing d h k = omega arith
-  asked-u W (fin false m e) a b = (
-    lt→ltb 0 (1 * 1 * down e + m * up e * 1) (some 1 (down e) (m * up e * 1) (pow-pos 0) (down-pos e)),
-    lt→ltb (m * up e * 1) (1 * 2 ^ 64 * down e) (lt-of-lt-of-le (ltb→lt (m * up e * 1) (1 * 2 ^ w * down e) b) (mul-le-mul-right (down e) (rw (one-mul (2 ^ w)) (pow-mono W)))),
-  )
-
-  pub over-u : (x : Float) → T (le (past 0) x) → T (not (lt x (past w))) → toUnsigned w x ≡ 2 ^ w - 1
-  unfolding le lt eq toUnsigned
-  over-u nan a b = absurd a
-  over-u (inf true) a b = absurd b
-  over-u (inf false) a b = refl
-  over-u (fin true m e) a b = absurd (T-not (ltb 0 (m * up e * 1 + 1 * 2 ^ w * down e)) b (lt→ltb 0 (m * up e * 1 + 1 * 2 ^ w * down e) (some' (2 ^ w) (down e) (m * up e * 1) (pow-pos w) (down-pos e))))
-  over-u (fin false m e) a b = full (m * up e / down e) (2 ^ w) (quotient-ge (m * up e) (down e) (2 ^ w) (down-pos e) (nltb→le (m * up e * 1) (1 * 2 ^ w * down e) b))
 
 -- ---- the i64 that `std::num` truncates to, as the machine hands it on: it fits the narrower type, and is the cast
 module _ (w : Width) (x : Float) (r : ℤ) (F : mag r < 2 ^ 63) (e : r ≡ toSigned 63 x) (k : toSigned 63 x ≡ toSigned (hbits w) x) where

@@ -5,7 +5,7 @@ ghost use lib.IntN.{pos, natAbs};
 ghost use mathlib.Core.Bool.{cond};
 ghost use lib.Ieee.{binary64, lt, sub};
 ghost use Rattle.numbers.specs.Literals.{+0, +1};
-ghost use Rattle.numbers.specs.Held.{at-most, at-least, held, sizeOf, Upto, Small, wholeOf, withSign, at-least-0, at-most-u32};
+ghost use Rattle.numbers.specs.Held.{at-most, at-least, held, sizeOf, Upto, Small, wholeOf, withSign, at-least-0};
 ghost use Rattle.numbers.specs.Within.{Is};
 ghost use Rattle.numbers.specs.Wrap.{clamp16};
 ghost use Rattle.numbers.specs.Casts.{cast-i32, cast-i16, cast-u32, single, double};
@@ -28,22 +28,26 @@ pub fn cast_i32(x: f32) -> i32
 
 // The quick way to 16 bits: the float is held to what they reach, its size is cast exactly, and the sign comes back. No arm of it leaves, so
 // that the compiler does several at a time.
-fn at_most(x: f32) -> f32
-    ensures { λ r. ⌜ r ≡ at-most x ⌝ }
+
+// The smaller of a float and a bound, which also stands for not-a-number.
+pub fn at_most(x: f32, bound: f32) -> f32
+    ensures { λ r. ⌜ r ≡ at-most bound x ⌝ }
 {
-    if x < 32767.0 { x } else { 32767.0 }
+    if x < bound { x } else { bound }
 }
 
-fn at_least(x: f32) -> f32
-    ensures { λ r. ⌜ r ≡ at-least x ⌝ }
+// The larger.
+pub fn at_least(x: f32, bound: f32) -> f32
+    ensures { λ r. ⌜ r ≡ at-least bound x ⌝ }
 {
-    if x > -32768.0 { x } else { -32768.0 }
+    if x > bound { x } else { bound }
 }
 
+// Held to what 16 bits reach.
 fn held(x: f32) -> f32
     ensures { λ r. ⌜ r ≡ held x ⌝ }
 {
-    let within = at_least(at_most(x));
+    let within = at_least(at_most(x, 32767.0), -32768.0);
     if x == x { within } else { 0.0 }
 }
 
@@ -79,22 +83,23 @@ pub fn cast_clamped(x: f32) -> i16
 }
 
 // The same of an f64, as floats until the last cast: exact, for the number is whole. The sign comes back by a difference, which has no -0.0.
-fn double_at_most(x: f64) -> f64
-    ensures { λ r. ⌜ r ≡ at-most x ⌝ }
+
+fn double_at_most(x: f64, bound: f64) -> f64
+    ensures { λ r. ⌜ r ≡ at-most bound x ⌝ }
 {
-    if x < 32767.0 { x } else { 32767.0 }
+    if x < bound { x } else { bound }
 }
 
-fn double_at_least(x: f64) -> f64
-    ensures { λ r. ⌜ r ≡ at-least x ⌝ }
+fn double_at_least(x: f64, bound: f64) -> f64
+    ensures { λ r. ⌜ r ≡ at-least bound x ⌝ }
 {
-    if x > -32768.0 { x } else { -32768.0 }
+    if x > bound { x } else { bound }
 }
 
 fn double_held(x: f64) -> f64
     ensures { λ r. ⌜ r ≡ held x ⌝ }
 {
-    let within = double_at_least(double_at_most(x));
+    let within = double_at_least(double_at_most(x, 32767.0), -32768.0);
     if x == x { within } else { 0.0 }
 }
 
@@ -135,20 +140,14 @@ pub fn cast_i16(x: f64) -> i16
 pub fn at_least_0(x: f64) -> f64
     ensures { λ r. ⌜ r ≡ at-least-0 x ⌝ }
 {
-    if x > 0.0 { x } else { 0.0 }
-}
-
-fn at_most_u32(x: f64) -> f64
-    ensures { λ r. ⌜ r ≡ at-most-u32 x ⌝ }
-{
-    if x < 4294967295.0 { x } else { 4294967295.0 }
+    double_at_least(x, 0.0)
 }
 
 // What the cast to u32 gives, as a float.
 pub fn whole_u32(x: f64) -> f64
     ensures { λ r. ⌜ r ≡ double (pos (cast-u32 x)) ⌝ }
 {
-    double_whole(at_most_u32(at_least_0(x)))
+    double_whole(double_at_most(at_least_0(x), 4294967295.0))
 }
 
 pub fn cast_u32(x: f64) -> u32

@@ -9,7 +9,7 @@ use lib.Ieee.{Float, binary64, ofBits, add, sub, ofInt, lt}
 use borrow.Author.Needs.{needs}
 use Rattle.numbers.specs.Literals.{+0, +1}
 use Rattle.numbers.specs.Held.{Upto, wholeOf}
-use Rattle.numbers.proofs.Floor.{Floored, floored, big, sub-whole}
+use Rattle.numbers.proofs.Floor.{Floored, floored, sub-whole}
 use Rattle.numbers.proofs.Literals.{big-64}
 use Rattle.numbers.proofs.casts.double_whole.Statement.{statement}
 use Rattle.numbers.proofs.casts.double_whole.Tie as tie

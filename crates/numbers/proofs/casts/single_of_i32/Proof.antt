@@ -1,16 +1,15 @@
 -- `numbers::casts::single_of_i32` meets its contract: its two halves, as the machine reads them. Assumes nothing.
 use mathlib.Core.Path.{_≡_, sym, ap, _∙_, subst}
-use Prim.Native.Nat.{ℕ, _<_}
+use Prim.Native.Nat.{_<_}
 use native.Mathlib.Omega.{arith}
 use lib.Bits.{bitAnd, mask-lt}
 use lib.Dec.{T}
 use lib.IntN.{ℤ, pos}
-use lib.Ieee.{Float, binary32, add, mul, ofInt, inFloat}
+use lib.Ieee.{binary32, add, mul, ofInt, inFloat}
 use lib.Signed.{shrZ}
 use mir.Syntax.{w32}
 use mir.Val.{ofZ, toZ, SFits}
 use mir.Facts.{toZ-pos}
-use Rattle.numbers.specs.Wrap.{modZ}
 use Rattle.numbers.proofs.Bounds.{shr-read}
 use Rattle.numbers.proofs.Halves.{halves, upper-counted, lower-counted}
 use Rattle.numbers.proofs.Literals.{two-to-16}

@@ -1,7 +1,7 @@
 -- `numbers::casts::whole_part` meets its contract. Assumes nothing.
 use mathlib.Core.Path.{_≡_, refl, sym, ap, _∙_, subst}
 use mathlib.Core.Bool.{true, false}
-use Prim.Native.Nat.{ℕ, _+_, _-_, _≤_, _<_}
+use Prim.Native.Nat.{_+_, _-_, _≤_, _<_}
 use native.Mathlib.Omega.{arith}
 use lib.Dec.{T, le→leb, lit<, lit≤}
 use lib.IntN.{ℤ, pos, natAbs, _-ℤ_}
@@ -11,8 +11,8 @@ use mir.Syntax.{w32}
 use mir.Val.{ofZ, toZ}
 use Rattle.numbers.specs.Within.{Is}
 use Rattle.numbers.specs.Held.{Small, wholeOf}
-use Rattle.numbers.proofs.Bounds.{is-fits, is-read, sub-above, result-read}
-use Rattle.numbers.proofs.Floor.{Floored, floored, big}
+use Rattle.numbers.proofs.Bounds.{is-fits, is-read, sub-above}
+use Rattle.numbers.proofs.Floor.{Floored, floored}
 use Rattle.numbers.proofs.Literals.{big-32}
 use Rattle.numbers.proofs.casts.whole_part.Statement.{statement}
 use Rattle.numbers.proofs.casts.whole_part.Tie as tie
