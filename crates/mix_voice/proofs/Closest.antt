@@ -1,12 +1,12 @@
 -- A fraction rounded to halves, a tie to the even one, and then cut to a whole number: with a quarter taken off first that is the whole part of the fraction,
 -- and with a quarter put on the next whole number up from its negative. Over 4 * Q, so that Q is a quarter. Assumes nothing.
 use mathlib.Core.Path.{_≡_, refl, sym, ap, _∙_, subst}
-use mathlib.Core.Bool.{Bool, true, false, not}
+use mathlib.Core.Bool.{not}
 use Prim.Native.Nat.{ℕ, suc, _+_, _-_, _*_, _/_, _%_, _≤_, _<_, compare, Ordering, Ordering·lt, Ordering·eq, Ordering·gt}
-use native.Mathlib.Nat.{le-trans, le-of-eq, lt-irrefl, mul-assoc, mul-comm, mul-left-comm, add-mul, mul-pos, mul-le-mul-right, le-of-mul-le-mul-right, div-add-mod', mod-lt, zero-lt-suc}
+use native.Mathlib.Nat.{le-trans, le-of-eq, mul-assoc, mul-comm, mul-left-comm, add-mul, mul-le-mul-right, le-of-mul-le-mul-right, div-add-mod', mod-lt}
 use native.Mathlib.Omega.{arith}
 use lib.Arith.{digits-div, digits-mod}
-use lib.Dec.{T, isLe, isEq, eqb, eqb-refl, eqb→eq, leb→le, le→leb, nleb→lt}
+use lib.Dec.{T, isLe, isEq, eqb, eqb-refl, eqb→eq, leb→le, nleb→lt}
 use lib.Ieee.{nearest}
 use lib.Ieee.Nearest.{closest, closest-mono}
 

@@ -1,64 +1,77 @@
--- The parts in a mix that fades, sample by sample. Assumes nothing.
-use mathlib.Core.Path.{_≡_, sym, ap, _∙_}
-use mathlib.Core.Bool.{Bool, true, false, cond}
+-- The parts in a mix that may fade, sample by sample, and what each mix gets of a voice's gains and marks. Assumes nothing.
+use mathlib.Core.Path.{_≡_, sym, ap, _∙_, subst}
+use mathlib.Core.Bool.{Bool, false, cond}
 use mathlib.Core.List.{List}
 use mathlib.Core.Logic.{⊎-elim}
 use Prim.Native.Nat.{ℕ, _+_, _*_, _/_, _%_, _≤_, _<_}
 use native.Mathlib.Omega.{arith}
-use lib.Ieee.{Float, nan}
+use lib.Dec.{eqb}
+use lib.Ieee.{Float}
 use lib.IntN.{ℤ, pos}
 use lib.ListN.{length, getD}
 use Rattle.lists.specs.Tabulate.{tabulate}
 use Rattle.lists.proofs.Bools.{cond-no}
 use Rattle.lists.proofs.Tabulate.{length-tabulate, getD-tabulate, tabulated}
 use Rattle.lists.proofs.Walk.{below-or}
-use Rattle.mix_voice.specs.Mixed.{sampleAt, summed, voiced, ramped, pick, four, steadyAt, partAt, fadingPart, fadingAt, eitherAt, rampedAt}
-use Rattle.mix_voice.proofs.Turns.{Mixing, mix-turn, row-is, in-row}
+use Rattle.mix_voice.specs.declared.sums.Gains.{Gains}
+use Rattle.mix_voice.specs.Mixed.{sampleAt, partOf, rampedAt, summed, ramped, Unmarked, partAt, voiced, gainsOf, pick, eitherAt, mixed, four}
+use Rattle.mix_voice.proofs.Turns.{Mixing, mix-turn, row-is, three-mixes}
 
-module _ (f0 f1 f2 f3 g0 g1 g2 g3 : Float) (frame : List ℤ) where
-  fading-at : (k c i p : ℕ) → k % 640 / 160 ≡ c → k % 160 ≡ i → k % 160 * 2 + k / 160 % 2 ≡ p
-      → fadingPart (pick f0 f1 f2 f3 c) (pick g0 g1 g2 g3 c) i (getD frame p (pos 0)) ≡ fadingAt f0 f1 f2 f3 g0 g1 g2 g3 frame k
-  fading-at k c i p e q h = λ j. fadingPart (pick f0 f1 f2 f3 (sym e j)) (pick g0 g1 g2 g3 (sym e j)) (sym q j) (getD frame (sym h j) (pos 0))
+module _ (on : Bool) (from to : Gains) (frame : List ℤ) where
+  either-at : (k c i p : ℕ) → k % 640 / 160 ≡ c → k % 160 ≡ i → k % 160 * 2 + k / 160 % 2 ≡ p
+      → partOf on (pick from c) (pick to c) i (getD frame p (pos 0)) ≡ eitherAt on from to frame k
+  either-at k c i p e q h = λ j. partOf on (pick from (sym e j)) (pick to (sym e j)) (sym q j) (getD frame (sym h j) (pos 0))
 
   module _ (m : ℕ) (old : List ℤ) (small : m < 3) (long : length old ≡ 1920) where
     abbrev pub Fading : ℕ → List ℤ → Type 0
-    Fading i l = Mixing m (fadingAt f0 f1 f2 f3 g0 g1 g2 g3 frame) old small long i l
+    Fading i l = Mixing m (eitherAt on from to frame) old small long i l
 
-    pub fade-turn : (i : ℕ) (l : List ℤ) → i < 160 → Fading i l
-        → Fading (i + 1) (four (fadingPart f0 g0 i (getD frame (i * 2) (pos 0))) (fadingPart f1 g1 i (getD frame (i * 2 + 1) (pos 0))) (fadingPart f2 g2 i (getD frame (i * 2) (pos 0))) (fadingPart f3 g3 i (getD frame (i * 2 + 1) (pos 0))) (m * 640 + i) l)
-    fade-turn i l h b =
-        mix-turn m (fadingAt f0 f1 f2 f3 g0 g1 g2 g3 frame) old small long i l _ _ _ _ h b
-        (fading-at (m * 640 + i) 0 i (i * 2) (omega arith) (omega arith) (omega arith))
-        (fading-at (m * 640 + i + 160) 1 i (i * 2 + 1) (omega arith) (omega arith) (omega arith))
-        (fading-at (m * 640 + i + 320) 2 i (i * 2) (omega arith) (omega arith) (omega arith))
-        (fading-at (m * 640 + i + 480) 3 i (i * 2 + 1) (omega arith) (omega arith) (omega arith))
+    -- a turn, by a call that says what it left; at steady gains it is `on` = false
+    pub fade-turn : (i : ℕ) (l r : List ℤ) (a b : ℤ) → i < 160 → Fading i l → a ≡ getD frame (i * 2) (pos 0) → b ≡ getD frame (i * 2 + 1) (pos 0)
+        → r ≡ four (partOf on (from .g0) (to .g0) i a) (partOf on (from .g1) (to .g1) i b) (partOf on (from .g2) (to .g2) i a) (partOf on (from .g3) (to .g3) i b) (m * 640 + i) l
+        → Fading (i + 1) r
+    fade-turn i l r a b h w p q e =
+        subst (λ (x : List ℤ). Fading (i + 1) x) (sym e)
+        (mix-turn m (eitherAt on from to frame) old small long i l _ _ _ _ h w
+        (ap (partOf on (from .g0) (to .g0) i) p ∙ either-at (m * 640 + i) 0 i (i * 2) (omega arith) (omega arith) (omega arith))
+        (ap (partOf on (from .g1) (to .g1) i) q ∙ either-at (m * 640 + i + 160) 1 i (i * 2 + 1) (omega arith) (omega arith) (omega arith))
+        (ap (partOf on (from .g2) (to .g2) i) p ∙ either-at (m * 640 + i + 320) 2 i (i * 2) (omega arith) (omega arith) (omega arith))
+        (ap (partOf on (from .g3) (to .g3) i) q ∙ either-at (m * 640 + i + 480) 3 i (i * 2 + 1) (omega arith) (omega arith) (omega arith)))
 
-pub ramp-row : (marks : List Bool) (ramp gains : List Float) (frame : List ℤ) (m k : ℕ) → k / 640 ≡ m
-    → eitherAt (getD marks m false) (getD ramp (m * 4) nan) (getD ramp (m * 4 + 1) nan) (getD ramp (m * 4 + 2) nan) (getD ramp (m * 4 + 3) nan)
-    (getD gains (m * 4) nan) (getD gains (m * 4 + 1) nan) (getD gains (m * 4 + 2) nan) (getD gains (m * 4 + 3) nan) frame k ≡ rampedAt marks ramp gains frame k
-ramp-row marks ramp gains frame m k e =
-    λ j. cond (getD marks (sym e j) false) (fadingPart (row-is ramp m k e j) (row-is gains m k e j) (k % 160) (sampleAt frame k)) (in-row gains frame m k e j)
+-- ---- all mixes
+pub length-mixed : (m : ℕ) (part : ℕ → ℤ) (l : List ℤ) → length (mixed m part l) ≡ 1920
+unfolding mixed
+length-mixed m part l = length-tabulate (λ k. cond (eqb (k / 640) m) (summed (getD l k (pos 0)) (part k)) (getD l k (pos 0))) 1920
 
--- where no mix fades the gains are steady
-pub unmarked : (marks : List Bool) (ramp gains : List Float) (frame old : List ℤ) → getD marks 0 false ≡ false → getD marks 1 false ≡ false → getD marks 2 false ≡ false
-    → voiced gains frame old ≡ ramped marks ramp gains frame old
-unfolding voiced ramped
-unmarked marks ramp gains frame old z0 z1 z2 =
-    tabulated (tabulate (λ k. summed (getD old k (pos 0)) (partAt gains frame k)) 1920) (λ k. summed (getD old k (pos 0)) (rampedAt marks ramp gains frame k)) 1920 (pos 0)
-    (length-tabulate (λ k. summed (getD old k (pos 0)) (partAt gains frame k)) 1920)
-    (λ k h. getD-tabulate (λ k. summed (getD old k (pos 0)) (partAt gains frame k)) 1920 k (pos 0) h ∙ ap (λ (n : ℤ). summed (getD old k (pos 0)) n) (sym (cond-no _ (partAt gains frame k) (off k h))))
-  where
-    off : (k : ℕ) → k < 1920 → getD marks (k / 640) false ≡ false
-    off k h =
-        ⊎-elim (λ (l : k < 640). ap (λ (n : ℕ). getD marks n false) (first l) ∙ z0)
-        (λ (l : 640 ≤ k). ⊎-elim (λ (u : k < 1280). ap (λ (n : ℕ). getD marks n false) (second l u) ∙ z1) (λ (u : 1280 ≤ k). ap (λ (n : ℕ). getD marks n false) (third u h) ∙ z2) (below-or k 1280))
-        (below-or k 640)
-      where
-        first : k < 640 → k / 640 ≡ 0
-        first l = omega arith
+module _ (marks : List Bool) (ramp gains : List Float) (frame : List ℤ) where
+  ramp-row : (m k : ℕ) → k / 640 ≡ m → eitherAt (getD marks m false) (gainsOf ramp m) (gainsOf gains m) frame k ≡ rampedAt marks ramp gains frame k
+  ramp-row m k e = λ j. partOf (getD marks (sym e j) false) (row-is ramp m k e j) (row-is gains m k e j) (k % 160) (sampleAt frame k)
 
-        second : 640 ≤ k → k < 1280 → k / 640 ≡ 1
-        second l u = omega arith
+  abbrev own : ℕ → ℕ → ℤ
+  own m = eitherAt (getD marks m false) (gainsOf ramp m) (gainsOf gains m) frame
 
-        third : 1280 ≤ k → k < 1920 → k / 640 ≡ 2
-        third l u = omega arith
+  -- mix m, by a call that says what it left
+  pub at-mix : (m : ℕ) (f t : Gains) (l r : List ℤ) → f ≡ gainsOf ramp m → t ≡ gainsOf gains m → r ≡ mixed m (eitherAt (getD marks m false) f t frame) l → r ≡ mixed m (own m) l
+  at-mix m f t l r p q e = e ∙ (λ j. mixed m (eitherAt (getD marks m false) (p j) (q j) frame) l)
+
+  pub each-is : (old l0 l1 l2 : List ℤ) → length old ≡ 1920 → l0 ≡ mixed 0 (own 0) old → l1 ≡ mixed 1 (own 1) l0 → l2 ≡ mixed 2 (own 2) l1
+      → l2 ≡ ramped marks ramp gains frame old
+  unfolding ramped
+  each-is old l0 l1 l2 long e0 e1 e2 = e2 ∙ ap (mixed 2 (own 2)) (e1 ∙ ap (mixed 1 (own 1)) e0) ∙ three-mixes (rampedAt marks ramp gains frame) old long own ramp-row
+
+  -- where no mix fades the gains are steady
+  pub unmarked : (old : List ℤ) → Unmarked marks → voiced gains frame old ≡ ramped marks ramp gains frame old
+  unfolding voiced ramped
+  unmarked old z =
+      tabulated (tabulate (λ k. summed (getD old k (pos 0)) (partAt gains frame k)) 1920) (λ k. summed (getD old k (pos 0)) (rampedAt marks ramp gains frame k)) 1920 (pos 0)
+      (length-tabulate (λ k. summed (getD old k (pos 0)) (partAt gains frame k)) 1920)
+      (λ k h. getD-tabulate (λ k. summed (getD old k (pos 0)) (partAt gains frame k)) 1920 k (pos 0) h ∙ ap (λ (n : ℤ). summed (getD old k (pos 0)) n) (sym (cond-no _ (partAt gains frame k) (off k h))))
+    where
+      at : (k m : ℕ) → k / 640 ≡ m → getD marks m false ≡ false → getD marks (k / 640) false ≡ false
+      at k m e f = ap (λ (n : ℕ). getD marks n false) e ∙ f
+
+      off : (k : ℕ) → k < 1920 → getD marks (k / 640) false ≡ false
+      off k h =
+          ⊎-elim (λ (l : k < 640). at k 0 (omega arith) (z .0))
+          (λ (l : 640 ≤ k). ⊎-elim (λ (u : k < 1280). at k 1 (omega arith) (z .1 .0)) (λ (u : 1280 ≤ k). at k 2 (omega arith) (z .1 .1)) (below-or k 1280))
+          (below-or k 640)

@@ -1,31 +1,22 @@
 -- From 2 ^ 22 to 2 ^ 23 an f32 has halves and nothing finer: the nearest to N / 2 ^ 149 is K / 2, and K stands in its bits. Assumes nothing.
-use mathlib.Core.Path.{_≡_, refl, sym, ap, _∙_, subst}
-use mathlib.Core.Bool.{Bool, true, false, true≢false}
+use mathlib.Core.Path.{_≡_, refl, ap, _∙_, subst}
+use mathlib.Core.Bool.{true, false, true≢false}
 use mathlib.Core.Logic.{⊎-elim}
-use Prim.Native.Nat.{ℕ, suc, _+_, _-_, _*_, _/_, _%_, _^_, _≤_, _<_}
-use native.Mathlib.Nat.{le-trans, le-of-eq, lt-of-lt-of-le, lt-of-le-of-lt, not-le-of-lt, mul-one, mul-comm, mul-assoc, mul-right-comm, mul-div-cancel, mul-le-mul-right, mul-lt-mul-of-pos-right, le-div-iff-mul-le, zero-lt-suc}
+use Prim.Native.Nat.{ℕ, _+_, _*_, _/_, _^_, _≤_, _<_}
+use native.Mathlib.Nat.{le-of-eq, lt-of-lt-of-le, lt-of-le-of-lt, not-le-of-lt, mul-assoc, mul-div-cancel, mul-le-mul-right, mul-lt-mul-of-pos-right}
 use native.Mathlib.Omega.{arith}
-use lib.Dec.{T, lit<, lit≤}
-use lib.Pow.{pow-pos, pow-mono, pow-lt}
+use lib.Dec.{lit<, lit≤}
+use lib.Pow.{pow-pos, pow-mono}
 use lib.Ieee.{Float, nan, inf, fin, binary32, up, down, size, round, toBits}
 use lib.Ieee.Digits.{size-lt, size-le}
 use lib.Ieee.Fits.{down-pos}
 use lib.Ieee.Exact.{HasValue}
-use lib.Ieee.Order.{drop, kept}
+use lib.Ieee.Order.{drop}
 use lib.Ieee.Nearest.{closest, closest-same}
-use lib.Ieee.Scale.{grid, overflow}
+use lib.Ieee.Scale.{grid}
 use Rattle.lists.proofs.Walk.{below-or}
-use Rattle.numbers.proofs.Cell.{drops, cell-le, round-value}
-
--- sums at L times the size
-pub times-lt : (n P q L : ℕ) → 0 < L → n < P * q → n * L < P * L * q
-times-lt n P q L K h = lt-of-lt-of-le (mul-lt-mul-of-pos-right h K) (le-of-eq (mul-right-comm P q L))
-
-pub times-le : (n P q L : ℕ) → n ≤ P * q → n * L ≤ P * L * q
-times-le n P q L h = le-trans (mul-le-mul-right L h) (le-of-eq (mul-right-comm P q L))
-
-times-ge : (n P q L : ℕ) → P * q ≤ n → P * L * q ≤ n * L
-times-ge n P q L h = le-trans (le-of-eq (mul-right-comm P L q)) (mul-le-mul-right L h)
+use Rattle.numbers.proofs.Cell.{drops-all, round-value}
+use Rattle.numbers.proofs.Floor.{times-lt, times-ge}
 
 -- ---- bits by the value
 size-is : (n : ℕ) → 2 ^ 171 ≤ n → n < 2 ^ 172 → size n ≡ 172
@@ -48,27 +39,19 @@ bits-of (fin false m e) K v h k =
     rw (n, z) (ap (λ (x : ℕ). 1241513984 + x) (mul-div-cancel K (pow-pos 148)))
 
 -- ---- the rounding
+-- a quarter and one, in units of 2 ^ -149
 abbrev pub Q : ℕ
 Q = 2 ^ 147
 
-module _ (N : ℕ) (least : 16777216 * Q ≤ N) (most : N < 33554432 * Q) where
-  abbrev D : ℕ
-  D = 2 ^ 149
+abbrev pub D : ℕ
+D = 2 ^ 149
 
+module _ (N : ℕ) (least : 16777216 * Q ≤ N) (most : N < 33554432 * Q) where
   room : N * 2 ^ 149 < 2 ^ (24 + 148) * D
   room = times-lt N 8388608 D (2 ^ 149) (pow-pos 149) most
 
   drop-is : drop 24 (N * 2 ^ 149) D ≡ 148
-  drop-is = both (drop 24 (N * 2 ^ 149) D) (size (N * 2 ^ 149 / D)) (drops binary32 N D 148 (pow-pos 149) room) refl (⊎-elim (λ h. absurd (few h)) (λ h. h) (below-or (size (N * 2 ^ 149 / D)) 172))
-    where
-      both : (d z : ℕ) → d ≤ 148 → d ≡ z - 24 → 172 ≤ z → d ≡ 148
-      both d z h e k = omega arith
-
-      digits : 2 ^ 171 ≤ N * 2 ^ 149 / D
-      digits = le-div-iff-mul-le (pow-pos 149) .1 (times-ge N 4194304 D (2 ^ 149) least)
-
-      few : size (N * 2 ^ 149 / D) < 172 → ⊥
-      few h = not-le-of-lt (lt-of-lt-of-le (size-lt (N * 2 ^ 149 / D)) (pow-mono {i = size (N * 2 ^ 149 / D)} {j = 171} (omega arith))) digits
+  drop-is = drops-all binary32 N D 148 (pow-pos 149) room 23 refl (times-ge N 4194304 D (2 ^ 149) least)
 
   grid-is : grid binary32 N D ≡ closest N (2 * Q) * 2 ^ 148
   grid-is =

@@ -1,29 +1,32 @@
 -- A gain from 0 to 32 times a sample: what the quick way makes of it is the product's cast. Assumes nothing.
 use mathlib.Core.Path.{_≡_, refl, sym, ap, _∙_, subst}
-use mathlib.Core.Bool.{Bool, true, false, not, _&&_, _||_, cond, true≢false, Bool·beq}
+use mathlib.Core.Bool.{Bool, true, false, not, _&&_, _||_, cond, true≢false}
 use mathlib.Core.Logic.{⊎-elim, inl, inr}
 use Prim.Native.Nat.{ℕ, zero, suc, _+_, _-_, _*_, _/_, _^_, _≤_, _<_, min}
-use native.Mathlib.Nat.{le-refl, le-trans, le-of-eq, mul-one, one-mul, zero-mul, mul-zero, mul-comm, mul-assoc, mul-right-comm, mul-le-mul, zero-div, zero-lt-suc}
+use native.Mathlib.Nat.{le-refl, le-trans, le-of-eq, mul-one, one-mul, zero-mul, mul-zero, mul-right-comm, mul-le-mul, zero-div, zero-lt-suc}
 use native.Mathlib.Omega.{arith}
-use lib.IntN.{ℤ, pos, negsuc, negℤ, natAbs, _-ℤ_}
+use lib.IntN.{ℤ, pos, negsuc, negℤ, natAbs, subℕ, _-ℤ_}
 use lib.Dec.{T, ltb, eqb, eqb→eq, lit<, lit≤}
 use lib.Pow.{pow-pos}
 use lib.Signed.{mag, shrZ}
-use borrow.Author.Tests.{lt-ltb, le-ltb, ltb-true, ltb-false}
-use lib.Ieee.{Float, nan, inf, fin, binary32, ofBits, up, down, unlike, round, sum, add, sub, mul, neg, ofInt, toSigned, toBits, lt, le, eq, isNan}
-use lib.Ieee.Fits.{down-pos, and-l, and-r}
+use borrow.Author.Tests.{lt-ltb, le-ltb, ltb-true}
+use lib.Ieee.{Float, nan, inf, fin, binary32, ofBits, up, down, unlike, round, sum, add, sub, mul, neg, ofInt, toSigned, lt, le, eq, isNan}
+use lib.Ieee.Fits.{down-pos}
 use lib.Ieee.Exact.{HasValue}
 use lib.Ieee.Nearest.{div-same}
-use Rattle.lists.proofs.Bools.{cond-yes, cond-no}
+use Rattle.lists.proofs.Bools.{and-both}
 use Rattle.lists.proofs.Walk.{below-or}
 use Rattle.numbers.specs.Literals.{+0}
 use Rattle.numbers.specs.Casts.{cast-i32, single}
+use Rattle.numbers.specs.Held.{Upto}
 use Rattle.numbers.proofs.Bounds.{sub-below, sub-above}
+use Rattle.numbers.proofs.Forms.{plus-or-zero}
 use Rattle.numbers.proofs.Value.{below-0, int-value, mul-value, sub-value}
 use Rattle.mixing.specs.Gain.{at-gain}
-use Rattle.mix_voice.specs.Quick.{quick, +¼, -¼, at-most, at-least, quarterOf, baseOf}
-use Rattle.mix_voice.proofs.Halved.{Q}
-use Rattle.mix_voice.proofs.Quarter.{D, quarter, middle, Less, G, G-le, G-zero, x-value, less-quarter, Cutting, Seen, seen}
+use Rattle.mix_voice.specs.declared.sums.Gains.{Gains}
+use Rattle.mix_voice.specs.Quick.{«QUICK_GAIN», quick, allQuick, +¼, -¼, quarterOf, baseOf}
+use Rattle.mix_voice.proofs.Halved.{Q, D}
+use Rattle.mix_voice.proofs.Quarter.{quarter, middle, Less, G, G-zero, x-value, less-quarter, Cutting, Seen, seen}
 
 -- ---- the code's literals
 pub quarter-32 : ofBits binary32 0x3e80_0000 ≡ +¼
@@ -34,7 +37,7 @@ pub minus-quarter-32 : neg (ofBits binary32 0x3e80_0000) ≡ -¼
 unfolding ofBits neg
 minus-quarter-32 = refl
 
-pub thirty-two : ofBits binary32 0x4200_0000 ≡ fin false 1 (pos 5)
+pub thirty-two : ofBits binary32 0x4200_0000 ≡ «QUICK_GAIN»
 unfolding ofBits
 thirty-two = refl
 
@@ -43,13 +46,7 @@ unfolding ofBits
 middle-32 = refl
 
 -- ---- what the tests of a gain say
-abbrev pub QuickForm : Float → Type 0
-QuickForm nan = ⊥
-QuickForm (inf s) = ⊥
-QuickForm (fin s m e) = (s ≡ true → m * up e ≡ 0) × (m * up e ≤ 32 * down e)
-
--- ---- the two tests
-le-means : (p : ℕ) (q : ℕ) (c : Bool) → (ltb p q || (eqb p q && c)) ≡ true → p ≤ q
+le-means : (p q : ℕ) (c : Bool) → (ltb p q || (eqb p q && c)) ≡ true → p ≤ q
 le-means p q c h = go (ltb p q) (eqb p q) (ltb-true p q) (eqb→eq p q) h
   where
     under : p < q → p ≤ q
@@ -60,22 +57,7 @@ le-means p q c h = go (ltb p q) (eqb p q) (ltb-true p q) (eqb→eq p q) h
     go false true f k e = le-of-eq (k tt)
     go false false f k e = absurd (true≢false (sym e))
 
-none-level : (p q : ℕ) (c : Bool) → (eqb p q && c) ≡ true → p ≡ q
-none-level p q c h = go (eqb p q) (eqb→eq p q) h
-  where
-    go : (b : Bool) → (T b → p ≡ q) → (b && c) ≡ true → p ≡ q
-    go true k e = k tt
-    go false k e = absurd (true≢false (sym e))
-
-and-left : (a b : Bool) → (a && b) ≡ true → a ≡ true
-and-left true b e = refl
-and-left false b e = e
-
-and-right : (a b : Bool) → (a && b) ≡ true → b ≡ true
-and-right true b e = e
-and-right false b e = absurd (true≢false (sym e))
-
-below-32 : (s : Bool) (m : ℕ) (e : ℤ) → (s ≡ true → m * up e ≡ 0) → le (fin s m e) (fin false 1 (pos 5)) ≡ true → m * up e ≤ 32 * down e
+below-32 : (s : Bool) (m : ℕ) (e : ℤ) → (s ≡ true → m * up e ≡ 0) → le (fin s m e) «QUICK_GAIN» ≡ true → m * up e ≤ 32 * down e
 unfolding le lt eq
 below-32 false m e z h = tidy (m * up e) (down e) (le-means (m * up e * 1) (1 * 2 ^ 5 * down e) (true || eqb (m * up e * 1) 0) h)
   where
@@ -86,48 +68,48 @@ below-32 true m e z h = nothing (m * up e) (down e) (z refl)
     nothing : (p q : ℕ) → p ≡ 0 → p ≤ 32 * q
     nothing p q h = omega arith
 
-from-0 : (s : Bool) (m : ℕ) (e : ℤ) → le +0 (fin s m e) ≡ true → s ≡ true → m * up e ≡ 0
-unfolding le lt eq
-from-0 false m e h t = absurd (true≢false (sym t))
-from-0 true m e h t = tidy (m * up e) (down e) (none-level (0 * 1 * down e) (m * up e * 1) (false || eqb (0 * 1 * down e) 0) h)
-  where
-    tidy : (p q : ℕ) → 0 * 1 * q ≡ p * 1 → p ≡ 0
-    tidy p q h = omega arith
-
-above-inf : (s : Bool) → (le +0 (inf s) && le (inf s) (fin false 1 (pos 5))) ≡ true → ⊥
+above-inf : (s : Bool) → (le +0 (inf s) && le (inf s) «QUICK_GAIN») ≡ true → ⊥
 unfolding le lt eq
 above-inf true h = true≢false (sym h)
 above-inf false h = true≢false (sym h)
 
-no-nan : (le +0 nan && le nan (fin false 1 (pos 5))) ≡ true → ⊥
+no-nan : (le +0 nan && le nan «QUICK_GAIN») ≡ true → ⊥
 unfolding le lt eq
 no-nan h = true≢false (sym h)
 
-pub quick-form : (g : Float) → quick g ≡ true → QuickForm g
+quick-form : (g : Float) → quick g ≡ true → Upto 32 g
 unfolding quick
 quick-form nan h = no-nan h
 quick-form (inf s) h = above-inf s h
 quick-form (fin s m e) h =
-    let a = and-left (le +0 (fin s m e)) (le (fin s m e) (fin false 1 (pos 5))) h in
-    let b = and-right (le +0 (fin s m e)) (le (fin s m e) (fin false 1 (pos 5))) h in
-    (from-0 s m e a, below-32 s m e (from-0 s m e a) b)
+    let t = and-both (le +0 (fin s m e)) (le (fin s m e) «QUICK_GAIN») h in
+    let z = plus-or-zero s m e (t .0) in
+    (z, below-32 s m e z (t .1))
+
+pub quick-each : (g : Gains) → allQuick g ≡ true → (quick (g .g0) ≡ true) × ((quick (g .g1) ≡ true) × ((quick (g .g2) ≡ true) × (quick (g .g3) ≡ true)))
+unfolding allQuick
+quick-each g h =
+    let a = and-both (quick (g .g0)) (quick (g .g1) && (quick (g .g2) && quick (g .g3))) h in
+    let b = and-both (quick (g .g1)) (quick (g .g2) && quick (g .g3)) (a .1) in
+    (a .0, (b .0, and-both (quick (g .g2)) (quick (g .g3)) (b .1)))
 
 -- ---- a sample held to a quarter, by its value
+-- p / q is a whole number above 0
+tidy : (p q n : ℕ) → p * 1 ≡ suc n * q → 1 * 1 * q ≤ p * 4
+tidy p q n h = omega (arith, more n q)
+  where
+    more : (n q : ℕ) → q ≤ suc n * q
+    more n q = le-trans (le-of-eq (sym (one-mul q))) (mul-le-mul (suc-le n) (le-refl q))
+      where
+        suc-le : (n : ℕ) → 1 ≤ suc n
+        suc-le n = omega arith
+
 over-quarter : (s : Float) (n : ℕ) → HasValue s false (suc n) 1 → lt s +¼ ≡ false
 unfolding lt
 over-quarter nan n v = absurd v
 over-quarter (inf t) n v = absurd v
 over-quarter (fin true m e) n v = absurd (true≢false (v .0))
 over-quarter (fin false m e) n v = le-ltb (m * up e * 2 ^ 2) (1 * 1 * down e) (tidy (m * up e) (down e) n (v .1))
-  where
-    tidy : (p q n : ℕ) → p * 1 ≡ suc n * q → 1 * 1 * q ≤ p * 4
-    tidy p q n h = omega (arith, more n q)
-      where
-        more : (n q : ℕ) → q ≤ suc n * q
-        more n q = le-trans (le-of-eq (sym (one-mul q))) (mul-le-mul (suc-le n) (le-refl q))
-          where
-            suc-le : (n : ℕ) → 1 ≤ suc n
-            suc-le n = omega arith
 
 under-quarter : (s : Float) (n : ℕ) → HasValue s true (suc n) 1 → (lt s +¼ ≡ true) × (lt -¼ s ≡ false)
 unfolding lt
@@ -141,15 +123,6 @@ under-quarter (fin true m e) n v = (
   where
     some : (p q : ℕ) → 0 < q → 0 < p * 4 + 1 * 1 * q
     some p q h = omega arith
-
-    tidy : (p q n : ℕ) → p * 1 ≡ suc n * q → 1 * 1 * q ≤ p * 4
-    tidy p q n h = omega (arith, more n q)
-      where
-        more : (n q : ℕ) → q ≤ suc n * q
-        more n q = le-trans (le-of-eq (sym (one-mul q))) (mul-le-mul (suc-le n) (le-refl q))
-          where
-            suc-le : (n : ℕ) → 1 ≤ suc n
-            suc-le n = omega arith
 
 quarters : lt -¼ +¼ ≡ true
 unfolding lt
@@ -184,7 +157,7 @@ base-quarter true = refl
 base-quarter false = refl
 
 -- ---- the cast, by the value
-abbrev pub signed : Bool → ℕ → ℤ
+abbrev signed : Bool → ℕ → ℤ
 signed b fl = cond b (negℤ (pos fl)) (pos fl)
 
 cast-of : (x : Float) (s : Bool) (g : ℕ) → HasValue x s g D → g / D ≤ 1048576 → cast-i32 x ≡ signed s (g / D)
@@ -297,7 +270,7 @@ module _ (s : Bool) (m : ℕ) (e : ℤ) (z : s ≡ true → m * up e ≡ 0) (mos
 pub products : (g : Float) (v : ℤ) → quick g ≡ true → mag v < 32768 → Product g v
 products g v h k = go g (quick-form g h)
   where
-    go : (g : Float) → QuickForm g → Product g v
+    go : (g : Float) → Upto 32 g → Product g v
     go nan f = absurd f
     go (inf s) f = absurd f
     go (fin s m e) f = by-sample s m e (f .0) (f .1) v k
@@ -320,23 +293,23 @@ shifted true K fl c f h =
     none : 0x4ABF_FFFF ≤ 1241513984 + K → ((1241513984 + K - 0x4ABF_FFFF) / 2 ≡ 0) × (fl ≡ 0)
     none l = (omega (arith, c .0, c .1), omega (arith, c .0, c .1))
 
+-- a difference of two numbers of 31 bits
+sub-fits : (n b : ℕ) → n < 2147483648 → b < 2147483648 → mag (subℕ n b) < 2147483648
+sub-fits n b h k =
+    ⊎-elim
+    (λ (l : n < b). subst (λ (z : ℤ). mag z < 2147483648) (sym (sub-below n b l)) under)
+    (λ (l : b ≤ n). subst (λ (z : ℤ). mag z < 2147483648) (sym (sub-above n b l)) over)
+    (below-or n b)
+  where
+    under : b - suc n < 2147483648
+    under = omega arith
+
+    over : n - b < 2147483648
+    over = omega arith
+
 pub diff-fits : (b : Bool) (K : ℕ) → K < 16777216 → mag (pos (1241513984 + K) -ℤ baseBy b) < 2147483648
-diff-fits true K h =
-    ⊎-elim (λ l. subst (λ (z : ℤ). mag z < 2147483648) (sym (sub-below (1241513984 + K) 0x4ABF_FFFF l)) (under K)) (λ l. subst (λ (z : ℤ). mag z < 2147483648) (sym (sub-above (1241513984 + K) 0x4ABF_FFFF l)) (over K h)) (below-or (1241513984 + K) 0x4ABF_FFFF)
-  where
-    under : (K : ℕ) → 0x4ABF_FFFF - suc (1241513984 + K) < 2147483648
-    under K = omega arith
-
-    over : (K : ℕ) → K < 16777216 → 1241513984 + K - 0x4ABF_FFFF < 2147483648
-    over K h = omega arith
-diff-fits false K h =
-    ⊎-elim (λ l. subst (λ (z : ℤ). mag z < 2147483648) (sym (sub-below (1241513984 + K) 0x4AC0_0000 l)) (under K)) (λ l. subst (λ (z : ℤ). mag z < 2147483648) (sym (sub-above (1241513984 + K) 0x4AC0_0000 l)) (over K h)) (below-or (1241513984 + K) 0x4AC0_0000)
-  where
-    under : (K : ℕ) → 0x4AC0_0000 - suc (1241513984 + K) < 2147483648
-    under K = omega arith
-
-    over : (K : ℕ) → K < 16777216 → 1241513984 + K - 0x4AC0_0000 < 2147483648
-    over K h = omega arith
+diff-fits true K h = sub-fits (1241513984 + K) 0x4ABF_FFFF (omega arith) (lit< tt)
+diff-fits false K h = sub-fits (1241513984 + K) 0x4AC0_0000 (omega arith) (lit< tt)
 
 pub not-nan : (x : Float) (s : Bool) (a c : ℕ) → HasValue x s a c → T (not (isNan x))
 unfolding isNan

@@ -1,29 +1,27 @@
 -- A number of at most 2 ^ 20 in size, a quarter nearer to zero, in halves: cut to a whole number that is the number's whole part with its sign. Assumes nothing.
 use mathlib.Core.Path.{_≡_, refl, sym, ap, _∙_, subst}
-use mathlib.Core.Bool.{Bool, true, false, not, _&&_, cond, true≢false}
+use mathlib.Core.Bool.{Bool, true, false, not, _&&_, cond}
 use mathlib.Core.Logic.{⊎-elim, _⊎_, inl, inr}
-use Prim.Native.Nat.{ℕ, suc, _+_, _-_, _*_, _/_, _%_, _^_, _≤_, _<_, compare}
-use native.Mathlib.Nat.{le-refl, le-trans, le-of-eq, lt-of-lt-of-le, lt-of-le-of-lt, mul-one, one-mul, zero-mul, mul-comm, mul-assoc, mul-right-comm, mul-pos, mul-sub, mul-le-mul-right, mul-lt-mul-of-pos-right, div-eq-of-lt, div-div-eq-div-mul, zero-lt-suc, sub-le}
+use Prim.Native.Nat.{ℕ, _+_, _-_, _*_, _/_, _%_, _^_, _≤_, _<_, compare}
+use native.Mathlib.Nat.{le-trans, le-of-eq, lt-of-le-of-lt, zero-mul, mul-comm, mul-sub, mul-le-mul-right, div-eq-of-lt, div-div-eq-div-mul, sub-le}
 use native.Mathlib.Omega.{arith}
-use lib.IntN.{ℤ, pos, negsuc}
-use lib.Dec.{T, ltb, lit<, lit≤}
-use lib.Pow.{pow-pos, pow-add, pow-mono}
-use borrow.Author.Tests.{lt-ltb, le-ltb, ltb-true, ltb-false}
-use lib.Ieee.{Float, nan, inf, fin, binary32, prec, up, down, round, sum, add, sub, toBits}
+use lib.IntN.{pos, negsuc}
+use lib.Dec.{ltb, lit<}
+use lib.Pow.{pow-pos, pow-add}
+use borrow.Author.Tests.{lt-ltb, ltb-true, ltb-false}
+use lib.Ieee.{Float, fin, binary32, up, down, round, sum, add, sub, toBits}
 use lib.Ieee.Digits.{back}
-use lib.Ieee.Fits.{down-pos, kept-lt, nearest-le}
+use lib.Ieee.Fits.{kept-lt, nearest-le}
 use lib.Ieee.Exact.{HasValue, round-exact}
 use lib.Ieee.Order.{drop, kept}
 use lib.Ieee.Nearest.{closest}
-use lib.Ieee.Scale.{grid, overflow}
-use Rattle.lists.proofs.Bools.{cond-yes, cond-no}
+use lib.Ieee.Scale.{grid}
+use Rattle.lists.proofs.Bools.{cond-yes}
 use Rattle.numbers.proofs.Cell.{drops, cell-le, round-value}
+use Rattle.numbers.proofs.Floor.{times-lt, times-le}
 use Rattle.numbers.proofs.Value.{add-value, sub-value}
 use Rattle.mix_voice.proofs.Closest.{below-ge, below-le, cut-below, above-ge, above-le, cut-above, a-few}
-use Rattle.mix_voice.proofs.Halved.{Q, times-lt, times-le, rounded, halved}
-
-abbrev pub D : ℕ
-D = 2 ^ 149
+use Rattle.mix_voice.proofs.Halved.{Q, D, rounded, halved}
 
 -- a quarter, with a sign, and 2 ^ 22 + 2 ^ 21
 abbrev pub quarter : Bool → Float
@@ -91,7 +89,7 @@ module _ (n d : ℕ) (d0 : 0 < d) (most : n ≤ 1048576 * d) where
   j-le : j ≤ 147
   j-le = drops binary32 n d 147 d0 small
 
-  pub G-le : G ≤ 4194304 * Q
+  G-le : G ≤ 4194304 * Q
   G-le = cell-le binary32 n d 147 d0 small 4194304 (times-le n 1048576 d (2 ^ 149) most)
 
   pub x-value : (s : Bool) → HasValue (round binary32 s n d) s G D
@@ -116,7 +114,7 @@ module _ (n d : ℕ) (d0 : 0 < d) (most : n ≤ 1048576 * d) where
   off : (q - r) * 2 ^ j ≡ G - Q
   off = mul-comm (q - r) (2 ^ j) ∙ mul-sub (2 ^ j) q r ∙ (λ i. mul-comm (2 ^ j) q i - (mul-comm (2 ^ j) r ∙ sym (pow-add 2 (147 - j) j) ∙ ap (λ (x : ℕ). 2 ^ x) (back 147 j j-le)) i)
 
-  pub exact : (s : Bool) → HasValue (round binary32 s (G - Q) D) s (G - Q) D
+  exact : (s : Bool) → HasValue (round binary32 s (G - Q) D) s (G - Q) D
   exact s =
       round-exact binary32 s (G - Q) D (q - r) j (pow-pos 149) (fewer q r q-le (pow-pos (147 - j)))
       (lt-of-le-of-lt (le-of-eq off) (lt-of-le-of-lt (sub-le G Q) (lt-of-le-of-lt G-le (lit< tt))))

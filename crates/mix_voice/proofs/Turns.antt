@@ -11,13 +11,14 @@ use lib.Ieee.{Float, nan}
 use lib.IntN.{ℤ, pos}
 use lib.ListN.{length, getD, set, length-set}
 use lib.Seq.{getD-set-same, getD-set-other}
-use borrow.Author.Tests.{eqb-true, eqb-false, eq-eqb, ne-eqb}
+use borrow.Author.Tests.{eqb-true, eqb-false, ne-eqb}
 use Rattle.lists.specs.Tabulate.{tabulate}
 use Rattle.lists.proofs.Tabulate.{length-tabulate, getD-tabulate, tabulated}
 use Rattle.lists.proofs.Walk.{below-or}
-use Rattle.lists.proofs.Bools.{cond-yes, cond-no}
+use Rattle.lists.proofs.Bools.{cond-no}
 use Rattle.mixing.specs.Gain.{at-gain}
-use Rattle.mix_voice.specs.Mixed.{sampleAt, partAt, summed, bump, four, pick, steadyAt, mixed}
+use Rattle.mix_voice.specs.declared.sums.Gains.{Gains}
+use Rattle.mix_voice.specs.Mixed.{partAt, summed, bump, four, paired, gainsOf, pick, mixed}
 
 pub record Been (place : ℕ → ℕ) (part : ℕ → ℤ) (old : List ℤ) (t : ℕ) (l : List ℤ) : Type 0 where
   pub same : length l ≡ length old
@@ -65,6 +66,12 @@ module _ (place : ℕ → ℕ) (part : ℕ → ℤ) (old : List ℤ) where
           late : place k ≡ place j → ⊥
           late w = omega arith
       by-left k kl p false q = getD-set-other l j k x (pos 0) (eqb-false k j q) ∙ b .left k kl (omega arith)
+
+  -- after all turns
+  pub been-all : (t : ℕ) (l : List ℤ) → length old ≡ 1920 → ((k : ℕ) → k < 1920 → place k < t) → Been place part old t l
+      → l ≡ tabulate (λ k. summed (getD old k (pos 0)) (part k)) 1920
+  been-all t l long all b =
+      tabulated l (λ k. summed (getD old k (pos 0)) (part k)) 1920 (pos 0) (b .same ∙ long) (λ k h. b .done k (subst (λ (n : ℕ). k < n) (sym long) h) (all k h))
 
 -- ---- one mix, sample by sample, and of a sample channel by channel
 abbrev pub inMix : ℕ → ℕ → ℕ
@@ -126,41 +133,23 @@ module _ (m : ℕ) (part : ℕ → ℤ) (old : List ℤ) (small : m < 3) (long :
       four-more : i * 4 + 1 + 1 + 1 + 1 ≡ (i + 1) * 4
       four-more = omega arith
 
-  pub mixed-is : (l : List ℤ) → Mixing 160 l → l ≡ mixed m part old
+  pub mixed-is : (i : ℕ) (l : List ℤ) → i ≤ 160 → 160 ≤ i → Mixing i l → l ≡ mixed m part old
   unfolding mixed
-  mixed-is l b = tabulated l (λ k. cond (eqb (k / 640) m) (summed (getD old k (pos 0)) (part k)) (getD old k (pos 0))) 1920 (pos 0) (b .same ∙ long) (λ k h. go k h (eqb (k / 640) m) refl)
+  mixed-is i l some all b = tabulated l (λ k. cond (eqb (k / 640) m) (summed (getD old k (pos 0)) (part k)) (getD old k (pos 0))) 1920 (pos 0) (b .same ∙ long) (λ k h. go k h (eqb (k / 640) m) refl)
     where
       go : (k : ℕ) → k < 1920 → (c : Bool) → eqb (k / 640) m ≡ c → getD l k (pos 0) ≡ cond c (summed (getD old k (pos 0)) (part k)) (getD old k (pos 0))
       go k h true e = b .done k (omega (arith, long)) (omega (arith, eqb-true (k / 640) m e))
       go k h false e = b .left k (omega (arith, long)) far
         where
-          far : 640 ≤ k % 160 * 4 + k % 640 / 160 + 640 * (k / 640 - m + (m - k / 640))
-          far = ⊎-elim (λ w. absurd (eqb-false (k / 640) m e (omega arith))) (λ w. w) (below-or (k % 160 * 4 + k % 640 / 160 + 640 * (k / 640 - m + (m - k / 640))) 640)
-
--- ---- the parts at steady gains
-module _ (g0 g1 g2 g3 : Float) (frame : List ℤ) where
-  steady-at : (k c p : ℕ) → k % 640 / 160 ≡ c → k % 160 * 2 + k / 160 % 2 ≡ p → at-gain (pick g0 g1 g2 g3 c) (getD frame p (pos 0)) ≡ steadyAt g0 g1 g2 g3 frame k
-  steady-at k c p e h = λ i. at-gain (pick g0 g1 g2 g3 (sym e i)) (getD frame (sym h i) (pos 0))
-
-  module _ (m : ℕ) (old : List ℤ) (small : m < 3) (long : length old ≡ 1920) where
-    abbrev pub Steady : ℕ → List ℤ → Type 0
-    Steady i l = Mixing m (steadyAt g0 g1 g2 g3 frame) old small long i l
-
-    pub steady-turn : (i : ℕ) (l : List ℤ) → i < 160 → Steady i l
-        → Steady (i + 1) (four (at-gain g0 (getD frame (i * 2) (pos 0))) (at-gain g1 (getD frame (i * 2 + 1) (pos 0))) (at-gain g2 (getD frame (i * 2) (pos 0))) (at-gain g3 (getD frame (i * 2 + 1) (pos 0))) (m * 640 + i) l)
-    steady-turn i l h b =
-        mix-turn m (steadyAt g0 g1 g2 g3 frame) old small long i l _ _ _ _ h b
-        (steady-at (m * 640 + i) 0 (i * 2) (omega arith) (omega arith))
-        (steady-at (m * 640 + i + 160) 1 (i * 2 + 1) (omega arith) (omega arith))
-        (steady-at (m * 640 + i + 320) 2 (i * 2) (omega arith) (omega arith))
-        (steady-at (m * 640 + i + 480) 3 (i * 2 + 1) (omega arith) (omega arith))
+          far : i * 4 ≤ k % 160 * 4 + k % 640 / 160 + 640 * (k / 640 - m + (m - k / 640))
+          far = ⊎-elim (λ w. absurd (eqb-false (k / 640) m e (omega arith))) (λ w. w) (below-or (k % 160 * 4 + k % 640 / 160 + 640 * (k / 640 - m + (m - k / 640))) (i * 4))
 
 -- ---- all mixes, one after the other
 abbrev pub byMix : ℕ → ℕ
 byMix k = k / 640
 
 module _ (part : ℕ → ℤ) (old : List ℤ) (long : length old ≡ 1920) where
-  pub next-mix : (m : ℕ) (l : List ℤ) (own : ℕ → ℤ) → Been byMix part old m l → ((k : ℕ) → k / 640 ≡ m → own k ≡ part k) → Been byMix part old (m + 1) (mixed m own l)
+  next-mix : (m : ℕ) (l : List ℤ) (own : ℕ → ℤ) → Been byMix part old m l → ((k : ℕ) → k / 640 ≡ m → own k ≡ part k) → Been byMix part old (m + 1) (mixed m own l)
   unfolding mixed
   next-mix m l own b e = record {
     same = length-tabulate f 1920 ∙ sym long;
@@ -190,15 +179,20 @@ module _ (part : ℕ → ℤ) (old : List ℤ) (long : length old ≡ 1920) wher
           before : k / 640 < m
           before = ⊎-elim (λ w. w) (λ w. absurd (eqb-false (k / 640) m q (omega arith))) (below-or (k / 640) m)
 
-  pub all-mixes : (l : List ℤ) → Been byMix part old 3 l → l ≡ tabulate (λ k. summed (getD old k (pos 0)) (part k)) 1920
-  all-mixes l b = tabulated l (λ k. summed (getD old k (pos 0)) (part k)) 1920 (pos 0) (b .same ∙ long) (λ k h. b .done k (subst (λ (n : ℕ). k < n) (sym long) h) (three k h))
+  pub three-mixes : (own : ℕ → ℕ → ℤ) → ((m k : ℕ) → k / 640 ≡ m → own m k ≡ part k)
+      → mixed 2 (own 2) (mixed 1 (own 1) (mixed 0 (own 0) old)) ≡ tabulate (λ k. summed (getD old k (pos 0)) (part k)) 1920
+  three-mixes own e =
+      let b0 = next-mix 0 old (own 0) (been-none byMix part old) (e 0) in
+      let b1 = next-mix 1 (mixed 0 (own 0) old) (own 1) b0 (e 1) in
+      let b2 = next-mix 2 (mixed 1 (own 1) (mixed 0 (own 0) old)) (own 2) b1 (e 2) in
+      been-all byMix part old 3 (mixed 2 (own 2) (mixed 1 (own 1) (mixed 0 (own 0) old))) long three b2
     where
       three : (k : ℕ) → k < 1920 → k / 640 < 3
       three k h = omega arith
 
 -- the gains of mix m are four in a row
 pub row-is : (gains : List Float) (m k : ℕ) → k / 640 ≡ m
-    → pick (getD gains (m * 4) nan) (getD gains (m * 4 + 1) nan) (getD gains (m * 4 + 2) nan) (getD gains (m * 4 + 3) nan) (k % 640 / 160) ≡ getD gains (k / 160) nan
+    → pick (gainsOf gains m) (k % 640 / 160) ≡ getD gains (k / 160) nan
 row-is gains m k e = go (eqb (k % 640 / 160) 0) (eqb (k % 640 / 160) 1) (eqb (k % 640 / 160) 2) refl refl refl
   where
     go : (x y z : Bool) → eqb (k % 640 / 160) 0 ≡ x → eqb (k % 640 / 160) 1 ≡ y → eqb (k % 640 / 160) 2 ≡ z
@@ -222,10 +216,6 @@ row-is gains m k e = go (eqb (k % 640 / 160) 0) (eqb (k % 640 / 160) 1) (eqb (k 
 
         at : (k % 640 / 160 ≡ 0 → ⊥) → (k % 640 / 160 ≡ 1 → ⊥) → (k % 640 / 160 ≡ 2 → ⊥) → m * 4 + 3 ≡ k / 160
         at x y z = omega (arith, last (k % 640 / 160) (quarter k) x y z)
-
-pub in-row : (gains : List Float) (frame : List ℤ) (m k : ℕ) → k / 640 ≡ m
-    → steadyAt (getD gains (m * 4) nan) (getD gains (m * 4 + 1) nan) (getD gains (m * 4 + 2) nan) (getD gains (m * 4 + 3) nan) frame k ≡ partAt gains frame k
-in-row gains frame m k e = ap (λ (g : Float). at-gain g (sampleAt frame k)) (row-is gains m k e)
 
 -- ---- all mixes at once
 abbrev pub atOnce : ℕ → ℕ
@@ -269,12 +259,7 @@ module _ (gains : List Float) (frame old : List ℤ) (long : length old ≡ 1920
 
   -- a sample in the four channels of mix m
   quad : (m i t at : ℕ) (l : List ℤ) → m < 3 → i < 160 → t ≡ i * 12 + m * 4 → at ≡ m * 640 + i → Together t l
-      → Together (t + 4)
-      (four
-      (at-gain (getD gains (m * 4) nan) (getD frame (i * 2) (pos 0)))
-      (at-gain (getD gains (m * 4 + 1) nan) (getD frame (i * 2 + 1) (pos 0)))
-      (at-gain (getD gains (m * 4 + 2) nan) (getD frame (i * 2) (pos 0)))
-      (at-gain (getD gains (m * 4 + 3) nan) (getD frame (i * 2 + 1) (pos 0))) at l)
+      → Together (t + 4) (paired (gainsOf gains m) (getD frame (i * 2) (pos 0)) (getD frame (i * 2 + 1) (pos 0)) at l)
   unfolding four
   quad m i t at l small h te ae b =
       let n0 = at-gain (getD gains (m * 4) nan) (getD frame (i * 2) (pos 0)) in
@@ -293,32 +278,28 @@ module _ (gains : List Float) (frame old : List ℤ) (long : length old ≡ 1920
       four-more : t + 1 + 1 + 1 + 1 ≡ t + 4
       four-more = omega arith
 
-  abbrev g : ℕ → Float
-  g n = getD gains n nan
+  -- the same by a call that says what it left
+  called : (m i t at : ℕ) (l r : List ℤ) (a b : ℤ) (g : Gains) → m < 3 → i < 160 → t ≡ i * 12 + m * 4 → at ≡ m * 640 + i → Together t l
+      → a ≡ getD frame (i * 2) (pos 0) → b ≡ getD frame (i * 2 + 1) (pos 0) → g ≡ gainsOf gains m → r ≡ paired g a b at l → Together (t + 4) r
+  called m i t at l r a b g small h te ae w p q k e =
+      subst (λ (x : List ℤ). Together (t + 4) x) (sym (e ∙ (λ j. paired (k j) (p j) (q j) at l))) (quad m i t at l small h te ae w)
 
-  abbrev pub pair : Float → Float → Float → Float → ℕ → ℕ → List ℤ → List ℤ
-  pair g0 g1 g2 g3 i at l = four (at-gain g0 (getD frame (i * 2) (pos 0))) (at-gain g1 (getD frame (i * 2 + 1) (pos 0))) (at-gain g2 (getD frame (i * 2) (pos 0))) (at-gain g3 (getD frame (i * 2 + 1) (pos 0))) at l
-
-  pub turn-all : (i : ℕ) (l : List ℤ) → i < 160 → Together (i * 12) l
-      → Together ((i + 1) * 12)
-      (pair (getD gains 8 nan) (getD gains 9 nan) (getD gains 10 nan) (getD gains 11 nan) i (i + 1280)
-      (pair (getD gains 4 nan) (getD gains 5 nan) (getD gains 6 nan) (getD gains 7 nan) i (i + 640)
-      (pair (getD gains 0 nan) (getD gains 1 nan) (getD gains 2 nan) (getD gains 3 nan) i i l)))
-  turn-all i l h b =
-      let l0 = pair (g 0) (g 1) (g 2) (g 3) i i l in
-      let l1 = pair (g 4) (g 5) (g 6) (g 7) i (i + 640) l0 in
-      let b0 = quad 0 i (i * 12) i l (omega arith) h (omega arith) (omega arith) b in
-      let b1 = quad 1 i (i * 12 + 4) (i + 640) l0 (omega arith) h (omega arith) (omega arith) b0 in
-      let b2 = quad 2 i (i * 12 + 4 + 4) (i + 1280) l1 (omega arith) h (omega arith) (omega arith) b1 in
-      subst (λ (k : ℕ). Together k (pair (g 8) (g 9) (g 10) (g 11) i (i + 1280) l1)) twelve b2
+  pub turn-all : (i : ℕ) (l l0 l1 l2 : List ℤ) (a b : ℤ) (g0 g1 g2 : Gains) → i < 160 → Together (i * 12) l
+      → a ≡ getD frame (i * 2) (pos 0) → b ≡ getD frame (i * 2 + 1) (pos 0) → g0 ≡ gainsOf gains 0 → g1 ≡ gainsOf gains 1 → g2 ≡ gainsOf gains 2
+      → l0 ≡ paired g0 a b i l → l1 ≡ paired g1 a b (i + 640) l0 → l2 ≡ paired g2 a b (i + 1280) l1 → Together ((i + 1) * 12) l2
+  turn-all i l l0 l1 l2 a b g0 g1 g2 h w p q k0 k1 k2 e0 e1 e2 =
+      let b0 = called 0 i (i * 12) i l l0 a b g0 (omega arith) h (omega arith) (omega arith) w p q k0 e0 in
+      let b1 = called 1 i (i * 12 + 4) (i + 640) l0 l1 a b g1 (omega arith) h (omega arith) (omega arith) b0 p q k1 e1 in
+      let b2 = called 2 i (i * 12 + 4 + 4) (i + 1280) l1 l2 a b g2 (omega arith) h (omega arith) (omega arith) b1 p q k2 e2 in
+      subst (λ (k : ℕ). Together k l2) twelve b2
     where
       twelve : i * 12 + 4 + 4 + 4 ≡ (i + 1) * 12
       twelve = omega arith
 
-  pub all-at-once : (l : List ℤ) → Together 1920 l → l ≡ tabulate (λ k. summed (getD old k (pos 0)) (partAt gains frame k)) 1920
-  all-at-once l b = tabulated l (λ k. summed (getD old k (pos 0)) (partAt gains frame k)) 1920 (pos 0) (b .same ∙ long) (λ k h. b .done k (subst (λ (n : ℕ). k < n) (sym long) h) (in-time k h))
+  pub all-at-once : (i : ℕ) (l : List ℤ) → i ≤ 160 → 160 ≤ i → Together (i * 12) l → l ≡ tabulate (λ k. summed (getD old k (pos 0)) (partAt gains frame k)) 1920
+  all-at-once i l some all b = been-all atOnce (λ k. partAt gains frame k) old (i * 12) l long in-time b
     where
-      in-time : (k : ℕ) → k < 1920 → k % 160 * 12 + k / 160 < 1920
+      in-time : (k : ℕ) → k < 1920 → k % 160 * 12 + k / 160 < i * 12
       in-time k h = omega arith
 
 pub length-four : (n0 n1 n2 n3 : ℤ) (at : ℕ) (l : List ℤ) → length (four n0 n1 n2 n3 at l) ≡ length l

@@ -1,116 +1,125 @@
-// A voice's frame where gains may fade.
-use crate::steady::add_four;
-use crate::steady::mix_steady;
-use crate::steady::steady_mix;
-use mixing::gain::at_gain;
-use mixing::gain::fading;
+// A voice's frame into the mixes, each of which may fade from its old gains to its new ones.
+use crate::quick::all_quick;
+use crate::quick::quick_all;
+use crate::quick::quick_mix;
+use crate::slow::slow_mix;
+use crate::sums::Gains;
+use crate::sums::gains_of;
+use crate::sums::is_silent;
+use numbers::ranged::ranged16;
+use numbers::ranged::ranged32;
 ghost use mathlib.Core.Path.{_≡_};
-ghost use Prim.Native.Nat.{_+_, _<_};
+ghost use mathlib.Core.Bool.{true};
+ghost use Prim.Native.Nat.{ℕ, _<_};
 ghost use lib.ListN.{length};
-ghost use Rattle.mix_voice.specs.Mixed.{fadingPart, fadingAt, eitherAt, mixed, ramped};
+ghost use Rattle.numbers.specs.Sizes.{FRAME, MIXES, GAINS};
+ghost use Rattle.mix_voice.specs.Quick.{allQuick};
+ghost use Rattle.mix_voice.specs.Mixed.{gainsOf, steadyAt, eitherAt, mixed, Unmarked, ramped};
 
-fn part_of(from: f32, to: f32, i: usize, sample: i16) -> i32
-    requires { ⌜ i < 160 ⌝ }
-    ensures { λ r. ⌜ r ≡ fadingPart from to i sample ⌝ }
+// Adds the frame to mix m at steady gains: nothing at gains of 0.0.
+fn steady_mix(mixes: &mut [i32], m: usize, frame: &[i16], g: Gains)
+    requires { ⌜ (length (now mixes) ≡ MIXES) × ((length (now frame) ≡ FRAME) × (m < 3)) ⌝ }
+    ensures { λ _. ⌜ now (mixes .exit) ≡ mixed m (steadyAt g (now (frame .entry))) (now (mixes .entry)) ⌝ }
 {
-    if from != to {
-        return fading(from, to, i, sample);
+    if is_silent(g) {
+        ranged16(frame);
+        ranged32(mixes);
+        return;
     }
-    at_gain(to, sample)
-}
-
-// Adds the frame to mix m, whose gains go from f0 .. f3 to g0 .. g3.
-fn fade_mix(
-    mixes: &mut [i32],
-    m: usize,
-    frame: &[i16],
-    f0: f32,
-    f1: f32,
-    f2: f32,
-    f3: f32,
-    g0: f32,
-    g1: f32,
-    g2: f32,
-    g3: f32,
-)
-    requires { ⌜ (length (now mixes) ≡ 1920) × ((length (now frame) ≡ 320) × (m < 3)) ⌝ }
-    ensures { λ _. ⌜ now (mixes .exit) ≡ mixed m (fadingAt f0 f1 f2 f3 g0 g1 g2 g3 (now (frame .entry))) (now (mixes .entry)) ⌝ }
-{
-    let mut i = 0;
-    while i < 160 {
-        let a = frame[i * 2];
-        let b = frame[i * 2 + 1];
-        let n0 = part_of(f0, g0, i, a);
-        let n1 = part_of(f1, g1, i, b);
-        let n2 = part_of(f2, g2, i, a);
-        let n3 = part_of(f3, g3, i, b);
-        add_four(mixes, m * 640 + i, n0, n1, n2, n3);
-        i += 1;
+    if all_quick(g) {
+        quick_mix(mixes, m, frame, g);
+        return;
     }
+    slow_mix(false, mixes, m, frame, g, g);
 }
 
 // Adds the frame to mix m, which fades where `on` says so.
-fn ramped_mix(
-    on: bool,
-    mixes: &mut [i32],
-    m: usize,
-    frame: &[i16],
-    f0: f32,
-    f1: f32,
-    f2: f32,
-    f3: f32,
-    g0: f32,
-    g1: f32,
-    g2: f32,
-    g3: f32,
-)
-    requires { ⌜ (length (now mixes) ≡ 1920) × ((length (now frame) ≡ 320) × (m < 3)) ⌝ }
-    ensures { λ _. ⌜ now (mixes .exit) ≡ mixed m (eitherAt on f0 f1 f2 f3 g0 g1 g2 g3 (now (frame .entry))) (now (mixes .entry)) ⌝ }
+fn ramped_mix(on: bool, mixes: &mut [i32], m: usize, frame: &[i16], from: Gains, to: Gains)
+    requires { ⌜ (length (now mixes) ≡ MIXES) × ((length (now frame) ≡ FRAME) × (m < 3)) ⌝ }
+    ensures { λ _. ⌜ now (mixes .exit) ≡ mixed m (eitherAt on from to (now (frame .entry))) (now (mixes .entry)) ⌝ }
 {
     if on {
-        fade_mix(mixes, m, frame, f0, f1, f2, f3, g0, g1, g2, g3);
+        slow_mix(true, mixes, m, frame, from, to);
         return;
     }
-    steady_mix(mixes, m, frame, g0, g1, g2, g3);
+    steady_mix(mixes, m, frame, to);
 }
 
-// Adds the frame of a voice to the mixes: `marks` says which of them fade, from the gains of `ramp` to those of `gains`.
-pub fn mix_ramped(mixes: &mut [i32], frame: &[i16], gains: &[f32], ramp: &[f32], marks: [bool; 3])
-    requires { ⌜ (length (now mixes) ≡ 1920) × ((length (now frame) ≡ 320) × ((length (now gains) ≡ 12) × (length (now ramp) ≡ 12))) ⌝ }
+// Adds the frame to one mix after the other.
+fn each_mix(mixes: &mut [i32], frame: &[i16], gains: &[f32], ramp: &[f32], marks: [bool; 3])
+    requires { ⌜ (length (now mixes) ≡ MIXES) × (length (now frame) ≡ FRAME) ⌝ }
+    requires { ⌜ (length (now gains) ≡ GAINS) × (length (now ramp) ≡ GAINS) ⌝ }
     ensures { λ _. ⌜ now (mixes .exit) ≡ ramped marks (now (ramp .entry)) (now (gains .entry)) (now (frame .entry)) (now (mixes .entry)) ⌝ }
+{
+    ramped_mix(
+        marks[0],
+        mixes,
+        0,
+        frame,
+        gains_of(ramp, 0),
+        gains_of(gains, 0),
+    );
+    ramped_mix(
+        marks[1],
+        mixes,
+        1,
+        frame,
+        gains_of(ramp, 1),
+        gains_of(gains, 1),
+    );
+    ramped_mix(
+        marks[2],
+        mixes,
+        2,
+        frame,
+        gains_of(ramp, 2),
+        gains_of(gains, 2),
+    );
+}
+
+// Whether no mix fades.
+fn none_fades(marks: [bool; 3]) -> bool
+    ensures { λ r. ⌜ (r ≡ true → Unmarked marks) ⌝ }
+{
+    if marks[0] {
+        return false;
+    }
+    if marks[1] {
+        return false;
+    }
+    !marks[2]
+}
+
+// Whether each mix is heard, at gains that the quick way takes.
+fn all_heard(gains: &[f32]) -> bool
+    requires { ⌜ length (now gains) ≡ GAINS ⌝ }
+    ensures { λ r. ⌜ (r ≡ true → (m : ℕ) → m < 3 → allQuick (gainsOf (now (gains .entry)) m) ≡ true) ⌝ }
 {
     let mut m = 0;
     while m < 3 {
-        let g = m * 4;
-        let on = marks[m];
-        let f0 = ramp[g];
-        let f1 = ramp[g + 1];
-        let f2 = ramp[g + 2];
-        let f3 = ramp[g + 3];
-        let g0 = gains[g];
-        let g1 = gains[g + 1];
-        let g2 = gains[g + 2];
-        let g3 = gains[g + 3];
-        ramped_mix(on, mixes, m, frame, f0, f1, f2, f3, g0, g1, g2, g3);
+        let g = gains_of(gains, m);
+        if is_silent(g) {
+            return false;
+        }
+        if !all_quick(g) {
+            return false;
+        }
         m += 1;
     }
+    true
 }
 
-// The same, all mixes at once where none fades.
+// Adds the frame of a voice to the mixes: `marks` says which of them fade, from the gains of `ramp` to those of `gains`.
 pub fn mix_voice(mixes: &mut [i32], frame: &[i16], gains: &[f32], ramp: &[f32], marks: [bool; 3])
-    requires { ⌜ (length (now mixes) ≡ 1920) × ((length (now frame) ≡ 320) × ((length (now gains) ≡ 12) × (length (now ramp) ≡ 12))) ⌝ }
+    requires { ⌜ (length (now mixes) ≡ MIXES) × (length (now frame) ≡ FRAME) ⌝ }
+    requires { ⌜ (length (now gains) ≡ GAINS) × (length (now ramp) ≡ GAINS) ⌝ }
     ensures { λ _. ⌜ now (mixes .exit) ≡ ramped marks (now (ramp .entry)) (now (gains .entry)) (now (frame .entry)) (now (mixes .entry)) ⌝ }
 {
-    let first = marks[0];
-    let second = marks[1];
-    let third = marks[2];
-    if !first {
-        if !second {
-            if !third {
-                mix_steady(mixes, frame, gains);
-                return;
-            }
+    if none_fades(marks) {
+        if all_heard(gains) {
+            quick_all(mixes, frame, gains);
+            return;
         }
     }
-    mix_ramped(mixes, frame, gains, ramp, marks);
+    each_mix(mixes, frame, gains, ramp, marks);
 }

@@ -3,6 +3,7 @@ pub mod Casts
 pub mod Double
 pub mod Literals
 pub mod Single
+pub mod Sizes
 pub mod Tests
 pub mod Within
 pub mod Wrap

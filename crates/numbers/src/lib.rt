@@ -2,5 +2,6 @@
 pub mod bits;
 pub mod casts;
 pub mod ranged;
+pub mod sizes;
 pub mod tests;
 pub mod whole;

@@ -3,7 +3,6 @@ use mathlib.Core.Path.{_≡_, sym, ap, _∙_, subst}
 use Prim.Native.Nat.{ℕ, _+_, _<_}
 use native.Mathlib.Omega.{arith}
 use lib.IntN.{ℤ, pos, _-ℤ_}
-use lib.Dec.{T}
 use lib.Signed.{shrZ}
 use lib.Ieee.{Float, binary32, ofBits, add, sub, mul, toBits}
 use mathlib.Core.Bool.{false}
@@ -13,7 +12,7 @@ use mir.Facts.{toZ-ofZ}
 use Rattle.numbers.specs.Casts.{single}
 use Rattle.numbers.proofs.Bounds.{shr-read}
 use Rattle.mix_voice.specs.Quick.{quarterOf, baseOf}
-use Rattle.mix_voice.proofs.Quarter.{D, middle, Seen}
+use Rattle.mix_voice.proofs.Quarter.{Seen}
 use Rattle.mix_voice.proofs.Product.{Product, products, middle-32, baseBy, shifted, diff-fits, not-nan}
 use Rattle.mix_voice.proofs.cut.cut.Statement.{statement}
 use Rattle.mix_voice.proofs.cut.cut.Tie as tie

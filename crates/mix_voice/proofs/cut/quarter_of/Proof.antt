@@ -2,7 +2,9 @@
 use mathlib.Core.Path.{ap, _∙_}
 use lib.Ieee.{Float}
 use borrow.Author.Needs.{needs}
-use Rattle.mix_voice.specs.Quick.{at-least, quarterOf}
+use Rattle.numbers.specs.Held.{at-most, at-least}
+use Rattle.mix_voice.specs.Quick.{quarterOf}
+use Rattle.mix_voice.proofs.Product.{quarter-32, minus-quarter-32}
 use Rattle.mix_voice.proofs.cut.quarter_of.Statement.{statement}
 use Rattle.mix_voice.proofs.cut.quarter_of.Tie as tie
 
@@ -14,7 +16,9 @@ at-least-requires c κs = search needs
 
 returns : tie.Need-returns
 unfolding quarterOf
-returns c = c .at-least .ensures ∙ ap (λ (y : Float). at-least y) (c .before .at-most .ensures)
+returns c =
+    let most = c .before .at-most .ensures ∙ ap (λ (b : Float). at-most b (c .before .before .args .s)) quarter-32 in
+    c .at-least .ensures ∙ (λ i. at-least (minus-quarter-32 i) (most i))
 
 pub quarter-of-spec : {M : Type 1} → statement M
 quarter-of-spec = tie.close (tie.spec at-most-requires at-least-requires returns)

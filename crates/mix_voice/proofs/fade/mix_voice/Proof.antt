@@ -1,38 +1,31 @@
 -- `mix_voice::fade::mix_voice` meets its contract: where no mix fades the gains are steady. Assumes nothing.
 use mathlib.Core.Path.{_∙_}
-use mathlib.Core.Bool.{false}
-use lib.ListN.{getD}
-use borrow.Author.Tests.{not-true}
-use Rattle.mix_voice.proofs.Fades.{unmarked}
 use borrow.Author.Needs.{needs}
+use Rattle.mix_voice.proofs.Fades.{unmarked}
 use Rattle.mix_voice.proofs.fade.mix_voice.Statement.{statement}
 use Rattle.mix_voice.proofs.fade.mix_voice.Tie as tie
 
-array-read-first : tie.Need-array-read-first
-array-read-first c = search needs
+none-fades-requires : tie.Need-none-fades-requires
+none-fades-requires c κs = search needs
 
-array-read-second : tie.Need-array-read-second
-array-read-second c = search needs
+all-heard-requires : tie.Need-all-heard-requires
+all-heard-requires c κs = search needs
 
-array-read-third : tie.Need-array-read-third
-array-read-third c = search needs
-
-mix-steady-requires : tie.Need-mix-steady-requires
-mix-steady-requires c κs = search needs
+quick-all-requires : tie.Need-quick-all-requires
+quick-all-requires c κs =
+    let a = c .before .before .before .before .before .before .before in
+    ((a .pre .0 .0, (a .pre .0 .1, a .pre .1 .0)), c .before .before .all-heard .ensures (c .before .if2 .taken))
 
 same-length : tie.Need-same-length
 same-length c = search needs
 
 returns : tie.Need-returns
 returns c =
-    let a = c .before .before .before .before .before .before .before .before in
-    let marks = a .args .t5 in
-    c .before .mix-steady .ensures
-    ∙ unmarked marks (a .args .ramp .now) (a .args .gains .now) (a .args .frame .now) (a .args .mixes .now)
-    (not-true (getD marks 0 false) (c .before .before .before .before .before .if1 .taken)) (not-true (getD marks 1 false) (c .before .before .before .before .if2 .taken)) (not-true (getD marks 2 false) (c .before .before .before .if3 .taken))
+    let a = c .before .before .before .before .before .before .before .before .before in
+    c .before .quick-all .ensures ∙ unmarked (a .args .marks) (a .args .ramp .now) (a .args .gains .now) (a .args .frame .now) (a .args .mixes .now) (c .before .before .before .before .before .before .none-fades .ensures (c .before .before .before .before .before .if1 .taken))
 
-mix-ramped-requires : tie.Need-mix-ramped-requires
-mix-ramped-requires c κs = search needs
+each-mix-requires : tie.Need-each-mix-requires
+each-mix-requires c κs = search needs
 
 same-length-2 : tie.Need-same-length-2
 same-length-2 c = search needs
@@ -44,12 +37,11 @@ pub mix-voice-spec : {M : Type 1} → statement M
 mix-voice-spec =
     tie.close
     (tie.spec
-    array-read-first
-    array-read-second
-    array-read-third
-    mix-steady-requires
+    none-fades-requires
+    all-heard-requires
+    quick-all-requires
     same-length
     returns
-    mix-ramped-requires
+    each-mix-requires
     same-length-2
     returns-2)
