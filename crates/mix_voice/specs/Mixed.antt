@@ -1,4 +1,5 @@
--- What a voice's frame adds to the mixes, which are "1,920 signed 32-bit numbers (by mix, then channel, then sample)". Assumes nothing: these are definitions.
+-- What a voice's frame adds to the mixes, which are "1,920 signed 32-bit numbers (by mix, then channel, then sample)".
+-- Assumes nothing: these are definitions.
 use mathlib.Core.Path.{_≡_}
 use mathlib.Core.Bool.{Bool, false, _&&_, cond}
 use mathlib.Core.List.{List}
@@ -33,14 +34,16 @@ sampleAt frame k = getD frame (placeOf k * 2 + gainOf k % 2) (pos 0)
 
 -- ---- what it gets
 
--- "Where a voice has a ramp and its old gain differs from the new, it fades", "Otherwise its part is gain times sample": the part of sample i, where `on` says
--- that there is a ramp
+-- "Where a voice has a ramp and its old gain differs from the new, it fades", "Otherwise its part is gain times sample":
+-- the part of sample i, where `on` says that there is a ramp
 abbrev pub partOf : Bool → Float → Float → ℕ → ℤ → ℤ
 partOf on from to i sample = cond on (cond (ne from to) (fading from to i sample) (at-gain to sample)) (at-gain to sample)
 
--- the part of a voice with these marks of a ramp in each mix, old gains and new gains (`nan` stands for a gain past the last, which no value asks for)
+-- the part of a voice with these marks of a ramp in each mix, old gains and new gains
+-- (`nan` stands for a gain past the last, which no value asks for)
 abbrev pub rampedAt : List Bool → List Float → List Float → List ℤ → ℕ → ℤ
-rampedAt marks from to frame k = partOf (getD marks (mixOf k) false) (getD from (gainOf k) nan) (getD to (gainOf k) nan) (placeOf k) (sampleAt frame k)
+rampedAt marks from to frame k =
+    partOf (getD marks (mixOf k) false) (getD from (gainOf k) nan) (getD to (gainOf k) nan) (placeOf k) (sampleAt frame k)
 
 -- "Mix sums wrap"
 abbrev pub summed : ℤ → ℤ → ℤ
@@ -99,7 +102,8 @@ bump l k part = set l k (summed (getD l k (pos 0)) part)
 
 -- a part added to a sample's value in each channel of a mix, from place `at`
 unfoldable pub four : ℤ → ℤ → ℤ → ℤ → ℕ → List ℤ → List ℤ
-four n0 n1 n2 n3 at l = bump (bump (bump (bump l at n0) (at + «FRAME_SAMPLES») n1) (at + 2 * «FRAME_SAMPLES») n2) (at + 3 * «FRAME_SAMPLES») n3
+four n0 n1 n2 n3 at l =
+    bump (bump (bump (bump l at n0) (at + «FRAME_SAMPLES») n1) (at + 2 * «FRAME_SAMPLES») n2) (at + 3 * «FRAME_SAMPLES») n3
 
 -- the parts of a left and a right number at steady gains
 abbrev pub paired : Gains → ℤ → ℤ → ℕ → List ℤ → List ℤ

@@ -1,6 +1,7 @@
-// What a sample adds at a gain from 0 to 32, cut to a whole number by sums alone and with no branch, so that the compiler does several at a time. The product is
-// brought a quarter nearer to 0 and 2^22 + 2^21 is put on it. There an f32 has halves and nothing finer, and a tie goes to the even one: the bits are
-// those of 2^22 + 2^21 and twice the product's whole part, or one more (one less of a negative one, which the base makes good).
+// What a sample adds at a gain from 0 to 32, cut to a whole number by sums alone and with no branch, so that the compiler does several
+// at a time. The product is brought a quarter nearer to 0 and 2^22 + 2^21 is put on it. There an f32 has halves and nothing finer, and
+// a tie goes to the even one: the bits are those of 2^22 + 2^21 and twice the product's whole part, or one more (one less of a negative
+// one, which the base makes good).
 use numbers::casts::at_least;
 use numbers::casts::at_most;
 ghost use mathlib.Core.Path.{_≡_};

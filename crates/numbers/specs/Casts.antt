@@ -5,7 +5,8 @@ use Prim.Native.Nat.{ℕ}
 use lib.IntN.{ℤ}
 use lib.Ieee.{Float, binary32, binary64, ofInt, toSigned, toUnsigned}
 
--- ---- "toward zero, saturating, not-a-number gives 0": the float's whole part where the type holds it, else the end of the type's range on its side
+-- ---- "toward zero, saturating, not-a-number gives 0": the float's whole part where the type holds it, else the end of the type's
+-- range on its side
 
 -- to 32 bits with a sign: 31 bits and the sign
 abbrev pub cast-i32 : Float → ℤ

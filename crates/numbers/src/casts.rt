@@ -1,4 +1,5 @@
-// Casts between floats and whole numbers. From a float: toward zero, saturating, not-a-number gives 0. To a float: to nearest, ties to even.
+// Casts between floats and whole numbers. From a float: toward zero, saturating, not-a-number gives 0. To a float: to nearest, ties
+// to even.
 ghost use mathlib.Core.Path.{_≡_};
 ghost use Prim.Native.Nat.{_≤_};
 ghost use lib.IntN.{pos, natAbs};
@@ -26,8 +27,8 @@ pub fn cast_i32(x: f32) -> i32
     0
 }
 
-// The quick way to 16 bits: the float is held to what they reach, its size is cast exactly, and the sign comes back. No arm of it leaves, so
-// that the compiler does several at a time.
+// The quick way to 16 bits: the float is held to what they reach, its size is cast exactly, and the sign comes back. No arm of it
+// leaves, so that the compiler does several at a time.
 
 // The smaller of a float and a bound, which also stands for not-a-number.
 pub fn at_most(x: f32, bound: f32) -> f32
@@ -82,7 +83,8 @@ pub fn cast_clamped(x: f32) -> i16
     with_sign(z, whole_part(size(z))) as i16
 }
 
-// The same of an f64, as floats until the last cast: exact, for the number is whole. The sign comes back by a difference, which has no -0.0.
+// The same of an f64, as floats until the last cast: exact, for the number is whole. The sign comes back by a difference, which has
+// no -0.0.
 
 fn double_at_most(x: f64, bound: f64) -> f64
     ensures { λ r. ⌜ r ≡ at-most bound x ⌝ }

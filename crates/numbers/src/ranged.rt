@@ -1,5 +1,5 @@
-// That all values of a slice are numbers of its type, which is known of one value that is read. Nothing is done with them, and the compiler leaves nothing of
-// the loops.
+// That all values of a slice are numbers of its type, which is known of one value that is read. Nothing is done with them, and the
+// compiler leaves nothing of the loops.
 ghost use Prim.Native.Nat.{ℕ, _<_};
 ghost use lib.IntN.{pos};
 ghost use lib.ListN.{getD};

@@ -1,8 +1,8 @@
 -- A front part of an entry's samples serves a stretch as all of them do: steps that leave something go the same with d samples more after them, and what is
 -- produced is the same. So a stretch can be played from a part that is lent, or from samples brought into an array of their own. Assumes nothing.
-use mathlib.Core.Path.{_≡_, refl, sym, ap, _∙_, subst}
+use mathlib.Core.Path.{_≡_, refl, sym, ap, _∙_}
 use mathlib.Core.List.{List}
-use Prim.Native.Nat.{ℕ, zero, suc, _+_, _-_, _*_, _≤_, _<_, min}
+use Prim.Native.Nat.{ℕ, zero, suc, _+_, _-_, _≤_, _<_, min}
 use native.Mathlib.Nat.{le-trans}
 use native.Mathlib.Omega.{arith}
 use lib.IntN.{ℤ, pos}

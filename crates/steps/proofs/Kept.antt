@@ -1,16 +1,14 @@
 -- What a step leaves is a fraction, whatever it began with; and the larger of 0.0 and a number that a rounding left with no sign is that number, so that it does not
 -- matter which zero the source's `max` picks. Assumes nothing.
-use mathlib.Core.Path.{_≡_, refl, sym, ap, _∙_, subst}
-use mathlib.Core.Bool.{Bool, true, false, not, _&&_, _||_, cond, true≢false}
-use Prim.Native.Nat.{ℕ, zero, suc, _+_, _*_, _^_, _≤_, _<_}
+use mathlib.Core.Path.{_≡_, refl, sym, ap, subst}
+use mathlib.Core.Bool.{Bool, true, false, cond, true≢false}
+use Prim.Native.Nat.{ℕ, zero, suc, _+_, _*_, _^_, _<_}
 use native.Mathlib.Nat.{mul-pos, zero-lt-suc}
 use native.Mathlib.Omega.{arith}
-use lib.IntN.{ℤ, pos}
-use lib.Dec.{T, ltb, eqb}
+use lib.Dec.{T, ltb}
 use lib.Ieee.{Float, nan, inf, fin, Format, prec, emax, low, up, down, odd, units, round, fits, lt, isNan}
 use borrow.Author.Tests.{lt-ltb, le-ltb}
 use lib.Ieee.Fits.{round-is, up-pos}
-use lib.Ieee.Exact.{HasValue}
 use lib.Ieee.Back.{whole-unique}
 use Rattle.numbers.specs.Literals.{+0}
 use Rattle.numbers.specs.Held.{at-least-0}

@@ -1,26 +1,27 @@
 -- A step from a fraction below 1 at a rate below 2 ^ 31: its sum is no less than the rate's whole part w, so its own whole part is w or w + 1, as the test against
 -- w + 1 says, where what is left of it is below 1. Assumes nothing.
 use mathlib.Core.Path.{_≡_, refl, sym, ap, _∙_, subst}
-use mathlib.Core.Bool.{Bool, true, false, not, _&&_, cond, true≢false}
+use mathlib.Core.Bool.{Bool, true, false, _&&_, cond, true≢false}
 use mathlib.Core.Logic.{⊎-elim}
-use Prim.Native.Nat.{ℕ, zero, suc, _+_, _-_, _*_, _/_, _^_, _≤_, _<_, min}
-use native.Mathlib.Nat.{le-trans, le-of-eq, lt-of-lt-of-le, lt-of-le-of-lt, mul-one, one-mul, mul-comm, mul-assoc, mul-right-comm, mul-pos, mul-le-mul-right, mul-lt-mul-of-pos-right, le-of-mul-le-mul-right, lt-of-mul-lt-mul-right, le-div-iff-mul-le, div-lt-iff-lt-mul, div-mul-le-self, zero-lt-suc, zero-mul, add-mul, le-of-lt}
+use Prim.Native.Nat.{ℕ, _+_, _-_, _*_, _/_, _^_, _≤_, _<_, min}
+use native.Mathlib.Nat.{le-trans, le-of-eq, lt-of-lt-of-le, lt-of-le-of-lt, one-mul, mul-comm, mul-assoc, mul-right-comm, mul-pos, mul-le-mul-right, mul-lt-mul-of-pos-right, le-of-mul-le-mul-right, lt-of-mul-lt-mul-right, le-div-iff-mul-le, div-lt-iff-lt-mul, div-mul-le-self, zero-lt-suc, zero-mul, add-mul, le-of-lt}
 use native.Mathlib.Omega.{arith}
 use lib.IntN.{ℤ, pos}
-use lib.Dec.{T, ltb, eqb, eqb→eq, le→leb, lit<, lit≤}
+use lib.Dec.{ltb, le→leb, lit<}
 use lib.Pow.{pow-pos, pow-add}
-use borrow.Author.Tests.{lt-ltb, le-ltb, ltb-true, ltb-false}
-use lib.Ieee.{Float, nan, inf, fin, Format, binary64, prec, emax, low, up, down, round, sum, add, sub, ofInt, lt, le, eq, toUnsigned, inFloat}
-use lib.Ieee.Fits.{down-pos, and-l, round-fits}
+use borrow.Author.Tests.{le-ltb, ltb-true, ltb-false}
+use lib.Ieee.{Float, nan, inf, fin, binary64, low, up, down, round, sum, add, sub, ofInt, lt, le, eq, toUnsigned, inFloat}
+use lib.Ieee.Fits.{down-pos, round-fits}
 use lib.Ieee.Casts.{toUnsigned-lt}
 use lib.Ieee.Exact.{HasValue}
 use lib.Ieee.Back.{unsigned-back}
-use lib.Ieee.Scale.{grid, overflow}
-use Rattle.lists.proofs.Bools.{cond-yes, cond-no, and-both}
+use lib.Ieee.Scale.{grid}
+use Rattle.lists.proofs.Bools.{and-both}
 use Rattle.lists.proofs.Walk.{below-or}
 use Rattle.numbers.specs.Literals.{+0, +1}
 use Rattle.numbers.specs.Held.{at-least-0, wholeOf}
 use Rattle.numbers.specs.Casts.{cast-u32, double}
+use Rattle.numbers.proofs.Forms.{plus-or-zero}
 use Rattle.numbers.proofs.Cell.{cell-le, cell-ge, round-value}
 use Rattle.numbers.proofs.Value.{add-value, sub-value, over}
 use Rattle.numbers.proofs.Floor.{times-lt, times-le, times-ge, scaled-less, lt-is, whole-value}
@@ -261,8 +262,8 @@ part-test nan a b = absurd (true≢false (sym a))
 part-test (inf true) a b = absurd (true≢false (sym a))
 part-test (inf false) a b = absurd (true≢false (sym b))
 part-test (fin true m e) a b =
-    let z = eqb→eq (0 * 1 * down e) (m * up e * 1) (and-l (eqb (0 * 1 * down e) (m * up e * 1)) (eqb (0 * 1 * down e) 0) (subst T (sym a) tt)) in
-    ((λ (u : true ≡ true). omega (arith, z)), omega (arith, z, down-pos e))
+    let z = plus-or-zero true m e a refl in
+    ((λ (u : true ≡ true). z), omega (arith, z, down-pos e))
 part-test (fin false m e) a b =
     let k = ltb-true (m * up e * 1) (1 * 1 * down e) b in
     ((λ (u : false ≡ true). absurd (true≢false (sym u))), omega (arith, k))

@@ -16,9 +16,8 @@ use Rattle.numbers.specs.Casts.{cast-u32, double}
 use Rattle.numbers.specs.Held.{at-least-0}
 use Rattle.mixing.specs.Interpolate.{interpolate}
 use Rattle.steps.specs.declared.step.Cursor.{Cursor}
-use Rattle.steps.specs.declared.stretch.Reached.{Reached}
 use Rattle.steps.specs.Step.{moved, left, consumed}
-use Rattle.steps.specs.Stretch.{after, first, second, between, both, played, Pair, Walked, Stretched, laid}
+use Rattle.steps.specs.Stretch.{after, between, both, played, Pair, Walked, laid}
 
 pub laid-next : (pairs : List ℤ) (fractions : List Float) (output n : ℕ) (frame : List ℤ)
     → laid pairs fractions output (n + 1) frame ≡ both (laid pairs fractions output n frame) (output + n) (interpolate (getD pairs (n * 2) (pos 0)) (getD pairs (n * 2 + 1) (pos 0)) (getD fractions n nan))

@@ -19,7 +19,6 @@ use Rattle.numbers.specs.Held.{at-least-0}
 use Rattle.numbers.proofs.Value.{add-value}
 use Rattle.mixing.proofs.AtZero.{zero-value, interpolate-at-zero}
 use Rattle.steps.specs.declared.step.Cursor.{Cursor}
-use Rattle.steps.specs.declared.stretch.Reached.{Reached}
 use Rattle.steps.specs.Step.{moved, left, consumed}
 use Rattle.steps.specs.Stretch.{after, between, both, played, Stretched}
 

@@ -1,4 +1,5 @@
--- Where a step takes the whole part of the rate, or one more: a fraction below 1 and a rate that 31 bits count. Assumes nothing: these are definitions.
+-- Where a step takes the whole part of the rate, or one more: a fraction below 1 and a rate that 31 bits count.
+-- Assumes nothing: these are definitions.
 use mathlib.Core.Path.{_≡_}
 use mathlib.Core.Bool.{Bool, true, false, _&&_}
 use Prim.Native.Nat.{_*_, _<_}
@@ -18,12 +19,13 @@ Slow nan = ⊥
 Slow (inf s) = ⊥
 Slow (fin s m e) = (s ≡ false) × (m * up e < 2147483648 * down e)
 
--- the tests for both
+-- the tests for them
 unfoldable pub is-part : Float → Bool
 is-part fraction = le +0 fraction && lt fraction +1
 
 unfoldable pub is-slow : Float → Bool
 is-slow rate = lt +0 rate && lt rate (fin false 1 (pos 31))
 
+-- both at once
 unfoldable pub steady : Float → Float → Bool
 steady fraction rate = is-part fraction && is-slow rate

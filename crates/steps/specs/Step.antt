@@ -1,4 +1,5 @@
--- One sample's step through an entry, as the source's long way has it: "each output sample consumes rate input samples". Assumes nothing: these are definitions.
+-- One sample's step through an entry, as the source's long way has it: each sample produced takes `rate` samples of the entry.
+-- Assumes nothing: these are definitions.
 use Prim.Native.Nat.{ℕ, _-_, min}
 use lib.IntN.{pos}
 use lib.Ieee.{Float, binary64, add, sub}
@@ -14,5 +15,6 @@ consumed rate c = min (cast-u32 (add binary64 (c .fraction) rate)) (c .remaining
 unfoldable pub left : Float → Cursor → Float
 left rate c = at-least-0 (sub binary64 (add binary64 (c .fraction) rate) (double (pos (consumed rate c))))
 
+-- where playing is after the step
 unfoldable pub moved : Float → Cursor → Cursor
 moved rate c = record { remaining = c .remaining - consumed rate c; fraction = left rate c }

@@ -2,12 +2,15 @@
 use crate::step::Cursor;
 use crate::stretch::Reached;
 use crate::stretch::stretch;
+use numbers::sizes::FRAME;
+use numbers::sizes::FRAME_SAMPLES;
 ghost use mathlib.Core.Path.{_≡_};
 ghost use mathlib.Core.Bool.{true};
 ghost use Prim.Native.Nat.{_≤_, _<_, _-_, min};
 ghost use lib.ListN.{length};
 ghost use lib.Ieee.{eq};
 ghost use Rattle.numbers.specs.Literals.{+0, +1};
+ghost use Rattle.numbers.specs.Sizes.{«FRAME_SAMPLES»};
 ghost use Rattle.steps.specs.Stretch.{Stretched, played};
 
 fn fewer(a: usize, b: usize) -> usize
@@ -17,14 +20,14 @@ fn fewer(a: usize, b: usize) -> usize
 }
 
 // Plays on into the frame from `output`, as `stretch` does at that rate.
-pub fn plain(samples: &[i16], c: Cursor, frame: &mut [i16; 320], output: usize) -> Reached
-    requires { ⌜ (output ≤ 160) × (1 < c .remaining) × (c .remaining ≤ length (now samples)) × (eq (c .fraction) +0 ≡ true) ⌝ }
-    ensures { λ r. ⌜ Stretched +1 c (160 - output) r ⌝ }
+pub fn plain(samples: &[i16], c: Cursor, frame: &mut [i16; FRAME], output: usize) -> Reached
+    requires { ⌜ (output ≤ «FRAME_SAMPLES») × (1 < c .remaining) × (c .remaining ≤ length (now samples)) × (eq (c .fraction) +0 ≡ true) ⌝ }
+    ensures { λ r. ⌜ Stretched +1 c («FRAME_SAMPLES» - output) r ⌝ }
     ensures { λ r. ⌜ now (frame .exit) ≡ played +1 c (now (samples .entry)) output (r .count) (now (frame .entry)) ⌝ }
 {
     let remaining = c.remaining as usize;
     let at = samples.len() - remaining;
-    let count = fewer(160 - output, remaining - 2);
+    let count = fewer(FRAME_SAMPLES - output, remaining - 2);
     if count == 0 {
         return Reached {
             cursor: c,
@@ -55,11 +58,11 @@ pub fn advance(
     samples: &[i16],
     rate: f64,
     c: Cursor,
-    frame: &mut [i16; 320],
+    frame: &mut [i16; FRAME],
     output: usize,
 ) -> Reached
-    requires { ⌜ (output ≤ 160) × (1 < c .remaining) × (c .remaining ≤ length (now samples)) × (length (now samples) < 4294967296) ⌝ }
-    ensures { λ r. ⌜ Stretched rate c (160 - output) r ⌝ }
+    requires { ⌜ (output ≤ «FRAME_SAMPLES») × (1 < c .remaining) × (c .remaining ≤ length (now samples)) × (length (now samples) < 4294967296) ⌝ }
+    ensures { λ r. ⌜ Stretched rate c («FRAME_SAMPLES» - output) r ⌝ }
     ensures { λ r. ⌜ now (frame .exit) ≡ played rate c (now (samples .entry)) output (r .count) (now (frame .entry)) ⌝ }
 {
     if rate == 1.0 {

@@ -1,9 +1,12 @@
-// A stretch of an entry with one channel, interpolated: as many samples as the frame has room for and the entry has the next two for. First where each
-// sample lies and its fraction, one after the other; then the samples between, which the compiler does several at a time.
+// A stretch of an entry with one channel, interpolated: as many samples as the frame has room for and the entry has the next two for.
+// First where each sample lies and its fraction, one after the other; then the samples between, which the compiler does several at a
+// time.
 use crate::step::Cursor;
 use mixing::interpolate::interpolate;
 use numbers::casts::at_least_0;
 use numbers::casts::whole_u32;
+use numbers::sizes::FRAME;
+use numbers::sizes::FRAME_SAMPLES;
 ghost use mathlib.Core.Path.{_≡_};
 ghost use Prim.Native.Nat.{_≤_, _<_, _+_, _-_};
 ghost use lib.ListN.{length};
@@ -12,6 +15,7 @@ ghost use lib.IntN.{pos};
 ghost use lib.Ieee.{lt};
 ghost use Rattle.numbers.specs.Casts.{cast-u32, double};
 ghost use Rattle.numbers.specs.Literals.{+0, +1};
+ghost use Rattle.numbers.specs.Sizes.{«FRAME_SAMPLES», FRAME};
 ghost use Rattle.steps.specs.Steady.{Part, Slow, is-part, is-slow, steady};
 ghost use Rattle.steps.specs.Stretch.{Walked, Stretched, laid, played};
 
@@ -41,11 +45,11 @@ fn walk_any(
     rate: f64,
     c: Cursor,
     room: usize,
-    pairs: &mut [i16; 320],
-    fractions: &mut [f64; 160],
+    pairs: &mut [i16; FRAME],
+    fractions: &mut [f64; FRAME_SAMPLES],
 ) -> Reached
-    requires { ⌜ (room ≤ 160) × (1 < c .remaining) × (c .remaining ≤ length (now samples)) × (length (now samples) < 4294967296) ⌝ }
-    requires { ⌜ (length (now pairs) ≡ 320) × (length (now fractions) ≡ 160) ⌝ }
+    requires { ⌜ (room ≤ «FRAME_SAMPLES») × (1 < c .remaining) × (c .remaining ≤ length (now samples)) × (length (now samples) < 4294967296) ⌝ }
+    requires { ⌜ (length (now pairs) ≡ FRAME) × (length (now fractions) ≡ «FRAME_SAMPLES») ⌝ }
     ensures { λ r. ⌜ Stretched rate c room r ⌝ }
     ensures { λ r. ⌜ Walked rate c (now (samples .entry)) (now (pairs .exit)) (now (fractions .exit)) (r .count) ⌝ }
 {
@@ -106,17 +110,18 @@ fn is_steady(fraction: f64, rate: f64) -> bool
     false
 }
 
-// The same from a fraction below 1 at a rate below 2^31: a step takes the whole part of the rate, or one more. Were what is left not below 1, it stops.
+// The same from a fraction below 1 at a rate below 2^31: a step takes the whole part of the rate, or one more. Were what is left not
+// below 1, it stops.
 fn walk_steady(
     samples: &[i16],
     rate: f64,
     c: Cursor,
     room: usize,
-    pairs: &mut [i16; 320],
-    fractions: &mut [f64; 160],
+    pairs: &mut [i16; FRAME],
+    fractions: &mut [f64; FRAME_SAMPLES],
 ) -> Reached
-    requires { ⌜ (room ≤ 160) × (1 < c .remaining) × (c .remaining ≤ length (now samples)) × (length (now samples) < 4294967296) ⌝ }
-    requires { ⌜ (length (now pairs) ≡ 320) × (length (now fractions) ≡ 160) ⌝ }
+    requires { ⌜ (room ≤ «FRAME_SAMPLES») × (1 < c .remaining) × (c .remaining ≤ length (now samples)) × (length (now samples) < 4294967296) ⌝ }
+    requires { ⌜ (length (now pairs) ≡ FRAME) × (length (now fractions) ≡ «FRAME_SAMPLES») ⌝ }
     requires { ⌜ Part (c .fraction) × Slow rate ⌝ }
     ensures { λ r. ⌜ Stretched rate c room r ⌝ }
     ensures { λ r. ⌜ Walked rate c (now (samples .entry)) (now (pairs .exit)) (now (fractions .exit)) (r .count) ⌝ }
@@ -162,11 +167,11 @@ fn walk(
     rate: f64,
     c: Cursor,
     room: usize,
-    pairs: &mut [i16; 320],
-    fractions: &mut [f64; 160],
+    pairs: &mut [i16; FRAME],
+    fractions: &mut [f64; FRAME_SAMPLES],
 ) -> Reached
-    requires { ⌜ (room ≤ 160) × (1 < c .remaining) × (c .remaining ≤ length (now samples)) × (length (now samples) < 4294967296) ⌝ }
-    requires { ⌜ (length (now pairs) ≡ 320) × (length (now fractions) ≡ 160) ⌝ }
+    requires { ⌜ (room ≤ «FRAME_SAMPLES») × (1 < c .remaining) × (c .remaining ≤ length (now samples)) × (length (now samples) < 4294967296) ⌝ }
+    requires { ⌜ (length (now pairs) ≡ FRAME) × (length (now fractions) ≡ «FRAME_SAMPLES») ⌝ }
     ensures { λ r. ⌜ Stretched rate c room r ⌝ }
     ensures { λ r. ⌜ Walked rate c (now (samples .entry)) (now (pairs .exit)) (now (fractions .exit)) (r .count) ⌝ }
 {
@@ -178,13 +183,13 @@ fn walk(
 
 // The samples between, both channels alike.
 fn lay(
-    pairs: &[i16; 320],
-    fractions: &[f64; 160],
+    pairs: &[i16; FRAME],
+    fractions: &[f64; FRAME_SAMPLES],
     count: usize,
-    frame: &mut [i16; 320],
+    frame: &mut [i16; FRAME],
     output: usize,
 )
-    requires { ⌜ output + count ≤ 160 ⌝ }
+    requires { ⌜ output + count ≤ «FRAME_SAMPLES» ⌝ }
     ensures { λ _. ⌜ now (frame .exit) ≡ laid (now (pairs .entry)) (now (fractions .entry)) output count (now (frame .entry)) ⌝ }
 {
     let mut i = 0;
@@ -202,16 +207,23 @@ pub fn stretch(
     samples: &[i16],
     rate: f64,
     c: Cursor,
-    frame: &mut [i16; 320],
+    frame: &mut [i16; FRAME],
     output: usize,
 ) -> Reached
-    requires { ⌜ (output ≤ 160) × (1 < c .remaining) × (c .remaining ≤ length (now samples)) × (length (now samples) < 4294967296) ⌝ }
-    ensures { λ r. ⌜ Stretched rate c (160 - output) r ⌝ }
+    requires { ⌜ (output ≤ «FRAME_SAMPLES») × (1 < c .remaining) × (c .remaining ≤ length (now samples)) × (length (now samples) < 4294967296) ⌝ }
+    ensures { λ r. ⌜ Stretched rate c («FRAME_SAMPLES» - output) r ⌝ }
     ensures { λ r. ⌜ now (frame .exit) ≡ played rate c (now (samples .entry)) output (r .count) (now (frame .entry)) ⌝ }
 {
-    let mut pairs = [0i16; 320];
-    let mut fractions = [0.0f64; 160];
-    let w = walk(samples, rate, c, 160 - output, &mut pairs, &mut fractions);
+    let mut pairs = [0i16; FRAME];
+    let mut fractions = [0.0f64; FRAME_SAMPLES];
+    let w = walk(
+        samples,
+        rate,
+        c,
+        FRAME_SAMPLES - output,
+        &mut pairs,
+        &mut fractions,
+    );
     lay(&pairs, &fractions, w.count, frame, output);
     w
 }

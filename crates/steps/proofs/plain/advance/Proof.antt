@@ -5,7 +5,7 @@ use lib.Dec.{T}
 use lib.Ieee.{Float, eq}
 use denote.Ref.{now}
 use borrow.Author.Needs.{needs}
-use Rattle.numbers.specs.Literals.{+0, +1}
+use Rattle.numbers.specs.Literals.{+1}
 use Rattle.numbers.proofs.Literals.{zero-64, one-64}
 use Rattle.steps.specs.Stretch.{Stretched, played}
 use Rattle.steps.proofs.Whole.{one-unique}

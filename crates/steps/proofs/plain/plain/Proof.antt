@@ -1,18 +1,17 @@
 -- `steps::plain::plain` meets its contract: a turn lays one sample more. Assumes nothing.
-use mathlib.Core.Path.{_≡_, refl, sym, ap, _∙_, subst}
-use Prim.Native.Nat.{ℕ, suc, _-_, _+_, _*_, _≤_, _<_}
+use mathlib.Core.Path.{_≡_, sym, ap, _∙_}
+use Prim.Native.Nat.{ℕ, _-_, _+_, _≤_}
 use native.Mathlib.Omega.{arith}
 use lib.ListN.{length, getD}
-use lib.IntN.{ℤ, pos}
+use lib.IntN.{pos}
 use denote.Ref.{now}
 use mir.Syntax.{w16}
 use mir.Val.{toZ, ofZ}
 use mir.Facts.{toZ-ofZ}
 use borrow.Author.Needs.{needs}
-use Rattle.numbers.specs.Literals.{+0, +1}
+use Rattle.numbers.specs.Literals.{+1}
 use Rattle.numbers.proofs.Literals.{zero-64}
-use Rattle.steps.specs.declared.step.Cursor.{Cursor}
-use Rattle.steps.specs.Stretch.{after, both, played, Stretched}
+use Rattle.steps.specs.Stretch.{both, played}
 use Rattle.steps.proofs.Whole.{played-plain, none-played, none-reached, some-reached}
 use Rattle.steps.proofs.plain.plain.Statement.{statement}
 use Rattle.steps.proofs.plain.plain.Tie as tie

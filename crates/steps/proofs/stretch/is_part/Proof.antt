@@ -1,9 +1,8 @@
 -- `steps::stretch::is_part` meets its contract. Assumes nothing.
-use mathlib.Core.Path.{_≡_, sym, ap, _∙_}
-use mathlib.Core.Bool.{Bool}
+use mathlib.Core.Path.{sym, ap, _∙_}
 use lib.Ieee.{Float, lt, le}
 use Rattle.lists.proofs.Bools.{and-yes, and-no}
-use Rattle.numbers.specs.Literals.{+0, +1}
+use Rattle.numbers.specs.Literals.{+1}
 use Rattle.numbers.proofs.Literals.{zero-64, one-64}
 use Rattle.steps.specs.Steady.{is-part}
 use Rattle.steps.proofs.stretch.is_part.Statement.{statement}

@@ -1,10 +1,9 @@
 -- `steps::stretch::is_slow` meets its contract. Assumes nothing.
 use mathlib.Core.Path.{_≡_, refl, sym, ap, _∙_}
-use mathlib.Core.Bool.{Bool, false}
+use mathlib.Core.Bool.{false}
 use lib.IntN.{pos}
 use lib.Ieee.{Float, fin, binary64, ofBits, lt}
 use Rattle.lists.proofs.Bools.{and-yes, and-no}
-use Rattle.numbers.specs.Literals.{+0}
 use Rattle.numbers.proofs.Literals.{zero-64}
 use Rattle.steps.specs.Steady.{is-slow}
 use Rattle.steps.proofs.stretch.is_slow.Statement.{statement}

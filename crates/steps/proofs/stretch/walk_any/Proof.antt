@@ -1,9 +1,8 @@
 -- `steps::stretch::walk_any` meets its contract: a turn is one step, by the laws of Walk. Assumes nothing.
-use mathlib.Core.Path.{_≡_, refl, sym, ap, _∙_, subst}
-use mathlib.Core.List.{List}
-use Prim.Native.Nat.{ℕ, _-_, _+_, _*_, _≤_, _<_}
+use mathlib.Core.Path.{_≡_, refl, ap, _∙_, subst}
+use Prim.Native.Nat.{ℕ, _-_, _+_}
 use native.Mathlib.Omega.{arith}
-use lib.ListN.{length, getD, set, length-set}
+use lib.ListN.{length, getD}
 use lib.IntN.{pos}
 use lib.Ieee.{Float, binary64, add, sub}
 use Rattle.numbers.specs.Held.{at-least-0}
@@ -12,8 +11,6 @@ use mir.Syntax.{w16}
 use mir.Val.{toZ, ofZ}
 use mir.Facts.{toZ-ofZ}
 use borrow.Author.Needs.{needs}
-use Rattle.steps.specs.declared.step.Cursor.{Cursor}
-use Rattle.steps.specs.Stretch.{after, Walked, Stretched}
 use Rattle.steps.proofs.Walk.{Loop, turn, begun}
 use Rattle.steps.proofs.stretch.walk_any.Statement.{statement}
 use Rattle.steps.proofs.stretch.walk_any.Tie as tie

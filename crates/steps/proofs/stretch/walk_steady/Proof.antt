@@ -1,11 +1,10 @@
 -- `steps::stretch::walk_steady` meets its contract: a turn is one step, by the laws of Steady and Walk. Assumes nothing.
 use mathlib.Core.Path.{_≡_, refl, sym, ap, _∙_, subst}
-use mathlib.Core.List.{List}
-use Prim.Native.Nat.{ℕ, _-_, _+_, _*_, _≤_, _<_}
+use Prim.Native.Nat.{ℕ, _-_, _+_}
 use native.Mathlib.Omega.{arith}
-use lib.ListN.{length, getD, set, length-set}
+use lib.ListN.{length, getD}
 use lib.IntN.{pos}
-use mathlib.Core.Bool.{Bool, true, false, not, cond}
+use mathlib.Core.Bool.{cond}
 use lib.Ieee.{Float, binary64, add, sub, lt, ofBits}
 use Rattle.numbers.specs.Held.{at-least-0}
 use denote.Ref.{now}
@@ -13,12 +12,11 @@ use mir.Syntax.{w16}
 use mir.Val.{toZ, ofZ}
 use mir.Facts.{toZ-ofZ}
 use borrow.Author.Needs.{needs}
-use Rattle.steps.specs.declared.step.Cursor.{Cursor}
-use Rattle.steps.specs.Stretch.{after, Walked, Stretched}
-use Rattle.numbers.specs.Casts.{cast-u32, double}
+use borrow.Author.Tests.{not-false}
+use Rattle.numbers.specs.Casts.{double}
 use Rattle.numbers.specs.Literals.{+0, +1}
 use Rattle.numbers.proofs.Literals.{one-64}
-use Rattle.steps.specs.Steady.{Part, Slow}
+use Rattle.steps.specs.Steady.{Part}
 use Rattle.steps.proofs.Steady.{Steps, stepped}
 use Rattle.steps.proofs.Walk.{Loop, turn, begun}
 use Rattle.steps.proofs.stretch.walk_steady.Statement.{statement}
@@ -53,10 +51,6 @@ loop-holds c =
 one-from-requires : tie.Need-one-from-requires Inv-loop μ-loop
 one-from-requires c κs = search needs
 
-un-not : (b : Bool) → not b ≡ false → b ≡ true
-un-not true e = refl
-un-not false e = sym e
-
 -- the step
 steps : (c : tie.Else1 Inv-loop μ-loop)
     → Steps (c .before .before .before .loop .fraction) (c .before .before .before .before .before .before .args .rate) (add binary64 (c .before .before .before .before .whole-u32 .result) (c .before .one-from .result))
@@ -67,7 +61,7 @@ steps c =
     let x = add binary64 (l .loop .fraction) (a .rate) in
     stepped (l .loop .fraction) (a .rate) (w .whole-u32 .result) (c .before .one-from .result) (l .loop .inv .1) (w .before .before .pre .1 .1 .1) (w .whole-u32 .ensures)
     (c .before .one-from .ensures ∙ ap (λ (y : Float). cond (lt x (add binary64 (w .whole-u32 .result) y)) +0 +1) one-64)
-    (ap (λ (y : Float). lt (sub binary64 x (add binary64 (w .whole-u32 .result) (c .before .one-from .result))) y) (sym one-64) ∙ un-not (lt (sub binary64 x (add binary64 (w .whole-u32 .result) (c .before .one-from .result))) (ofBits binary64 0x3ff0_0000_0000_0000)) (c .if1 .left))
+    (ap (λ (y : Float). lt (sub binary64 x (add binary64 (w .whole-u32 .result) (c .before .one-from .result))) y) (sym one-64) ∙ not-false (lt (sub binary64 x (add binary64 (w .whole-u32 .result) (c .before .one-from .result))) (ofBits binary64 0x3ff0_0000_0000_0000)) (c .if1 .left))
 
 counted-requires : tie.Need-counted-requires Inv-loop μ-loop
 counted-requires c κs = steps c .is ∙ ap (λ (n : ℕ). double (pos n)) (sym (steps c .count))
