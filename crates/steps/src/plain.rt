@@ -61,7 +61,8 @@ pub fn advance(
     frame: &mut [i16; FRAME],
     output: usize,
 ) -> Reached
-    requires { ⌜ (output ≤ «FRAME_SAMPLES») × (1 < c .remaining) × (c .remaining ≤ length (now samples)) × (length (now samples) < 4294967296) ⌝ }
+    requires { ⌜ (output ≤ «FRAME_SAMPLES») × (1 < c .remaining) × (c .remaining ≤ length (now samples))
+        × (length (now samples) < 4294967296) ⌝ }
     ensures { λ r. ⌜ Stretched rate c («FRAME_SAMPLES» - output) r ⌝ }
     ensures { λ r. ⌜ now (frame .exit) ≡ played rate c (now (samples .entry)) output (r .count) (now (frame .entry)) ⌝ }
 {

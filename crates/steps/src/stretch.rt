@@ -48,7 +48,8 @@ fn walk_any(
     pairs: &mut [i16; FRAME],
     fractions: &mut [f64; FRAME_SAMPLES],
 ) -> Reached
-    requires { ⌜ (room ≤ «FRAME_SAMPLES») × (1 < c .remaining) × (c .remaining ≤ length (now samples)) × (length (now samples) < 4294967296) ⌝ }
+    requires { ⌜ (room ≤ «FRAME_SAMPLES») × (1 < c .remaining) × (c .remaining ≤ length (now samples))
+        × (length (now samples) < 4294967296) ⌝ }
     requires { ⌜ (length (now pairs) ≡ FRAME) × (length (now fractions) ≡ «FRAME_SAMPLES») ⌝ }
     ensures { λ r. ⌜ Stretched rate c room r ⌝ }
     ensures { λ r. ⌜ Walked rate c (now (samples .entry)) (now (pairs .exit)) (now (fractions .exit)) (r .count) ⌝ }
@@ -120,7 +121,8 @@ fn walk_steady(
     pairs: &mut [i16; FRAME],
     fractions: &mut [f64; FRAME_SAMPLES],
 ) -> Reached
-    requires { ⌜ (room ≤ «FRAME_SAMPLES») × (1 < c .remaining) × (c .remaining ≤ length (now samples)) × (length (now samples) < 4294967296) ⌝ }
+    requires { ⌜ (room ≤ «FRAME_SAMPLES») × (1 < c .remaining) × (c .remaining ≤ length (now samples))
+        × (length (now samples) < 4294967296) ⌝ }
     requires { ⌜ (length (now pairs) ≡ FRAME) × (length (now fractions) ≡ «FRAME_SAMPLES») ⌝ }
     requires { ⌜ Part (c .fraction) × Slow rate ⌝ }
     ensures { λ r. ⌜ Stretched rate c room r ⌝ }
@@ -170,7 +172,8 @@ fn walk(
     pairs: &mut [i16; FRAME],
     fractions: &mut [f64; FRAME_SAMPLES],
 ) -> Reached
-    requires { ⌜ (room ≤ «FRAME_SAMPLES») × (1 < c .remaining) × (c .remaining ≤ length (now samples)) × (length (now samples) < 4294967296) ⌝ }
+    requires { ⌜ (room ≤ «FRAME_SAMPLES») × (1 < c .remaining) × (c .remaining ≤ length (now samples))
+        × (length (now samples) < 4294967296) ⌝ }
     requires { ⌜ (length (now pairs) ≡ FRAME) × (length (now fractions) ≡ «FRAME_SAMPLES») ⌝ }
     ensures { λ r. ⌜ Stretched rate c room r ⌝ }
     ensures { λ r. ⌜ Walked rate c (now (samples .entry)) (now (pairs .exit)) (now (fractions .exit)) (r .count) ⌝ }
@@ -210,7 +213,8 @@ pub fn stretch(
     frame: &mut [i16; FRAME],
     output: usize,
 ) -> Reached
-    requires { ⌜ (output ≤ «FRAME_SAMPLES») × (1 < c .remaining) × (c .remaining ≤ length (now samples)) × (length (now samples) < 4294967296) ⌝ }
+    requires { ⌜ (output ≤ «FRAME_SAMPLES») × (1 < c .remaining) × (c .remaining ≤ length (now samples))
+        × (length (now samples) < 4294967296) ⌝ }
     ensures { λ r. ⌜ Stretched rate c («FRAME_SAMPLES» - output) r ⌝ }
     ensures { λ r. ⌜ now (frame .exit) ≡ played rate c (now (samples .entry)) output (r .count) (now (frame .entry)) ⌝ }
 {
