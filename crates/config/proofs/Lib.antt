@@ -1,6 +1,11 @@
+pub mod Formed
 pub mod Four
+pub mod Kept
 pub mod Listed
 pub mod Pushing
+pub mod Ranged
 pub mod Refused
 pub mod Room
-pub mod Turns
+pub mod Served
+pub mod Settled
+pub mod Sized

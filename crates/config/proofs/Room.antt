@@ -11,7 +11,7 @@ use Rattle.config.specs.Dirty.{flag, FORMAT, «MONO_OR_STEREO», «ADPCM
 use Rattle.config.specs.Laws.{EachKeeps}
 use Rattle.config.specs.Parsed.{inTurn, playSteps, soundSteps, lastSteps, settled}
 use Rattle.config.specs.Steps.{resetStep, partialResetStep, enableStep, syncStep, rateStep, interpolationStep, coefficientsStep, gainStep, filtersStep, formatStep, stereoStep, lengthenStep}
-use Rattle.config.proofs.Turns.{in-turn-keeps}
+use Rattle.config.proofs.Kept.{in-turn}
 
 -- of a record that had n entries queued
 pub record Room (n : ℕ) (v : Voice) : Type 0 where
@@ -86,9 +86,9 @@ module _ (bytes : List ℕ) (n : ℕ) where
 
   -- before the format
   pub sound-room : (cs : List ℕ) (v : Voice) → Room n v → Room n (inTurn (soundSteps bytes cs) (inTurn (playSteps bytes) v))
-  sound-room cs v p = in-turn-keeps (Room n) (soundSteps bytes cs) (sound-keeps cs) _ (in-turn-keeps (Room n) (playSteps bytes) play-keeps v p)
+  sound-room cs v p = in-turn (Room n) (soundSteps bytes cs) (sound-keeps cs) _ (in-turn (Room n) (playSteps bytes) play-keeps v p)
 
   -- before the entries
   pub settled-room : (cs : List ℕ) (v : Voice) → Room n v → Room n (settled bytes cs v)
   unfolding settled
-  settled-room cs v p = in-turn-keeps (Room n) (lastSteps bytes) last-keeps _ (sound-room cs v p)
+  settled-room cs v p = in-turn (Room n) (lastSteps bytes) last-keeps _ (sound-room cs v p)

@@ -1,3 +1,4 @@
 pub mod Formed
 pub mod Lengths
+pub mod Range
 pub mod Tidied

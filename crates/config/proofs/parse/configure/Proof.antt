@@ -16,7 +16,7 @@ use Rattle.config.specs.Parsed.{settled, toAdd, refusal, parsed, configu
 use Rattle.config.specs.Refusal.{refusalOf}
 use Rattle.config.specs.Steps.{pushedAll}
 use Rattle.config.proofs.Listed.{listed-long}
-use Rattle.config.proofs.Refused.{entries-fit}
+use Rattle.config.proofs.Served.{room-for}
 use Rattle.config.proofs.Room.{settled-room}
 use Rattle.config.proofs.parse.configure.Statement.{statement}
 use Rattle.config.proofs.parse.configure.Tie as tie
@@ -97,7 +97,7 @@ push-entries-requires : tie.Need-push-entries-requires
 push-entries-requires c κs =
     let n = c .before in
     let t = n .before in
-    let fits = entries-fit (w t .queued) (listedIn (t .to-add .result)) (start t .args .lane) (sym (n .refusal .ensures) ∙ c .if2 .left) in
+    let fits = room-for (w t .queued) (listedIn (t .to-add .result)) (start t .args .lane) (sym (n .refusal .ensures) ∙ c .if2 .left) in
     (t .to-add .ensures .1, omega (arith, fits, listed-long (t .to-add .result) (t .to-add .ok) (t .to-add .ensures .1)))
 
 clear-requires : tie.Need-clear-requires
