@@ -14,9 +14,9 @@ use Rattle.adpcm.specs.declared.History.{History}
 abbrev pub Fits32 : ℤ → Type 0
 Fits32 z = (negℤ (pos 2147483648) ≤ℤ z) × (z ≤ℤ pos 2147483647)
 
--- For all coefficients, histories, bytes (numbers below 256) and counts, where the bytes have frames enough for the count: if bit 7 of every
--- sample's header is clear, and the public description's own sum of every sample fits 32 signed bits, then both give the same samples and
--- the same history after them.
+-- For all coefficients, histories, bytes (numbers below 256) and counts, where the bytes have frames enough for the count: if bit 7 of
+-- every sample's header is clear, and the public description's own sum of every sample fits 32 signed bits, then both give the same samples
+-- and the same history after them.
 pub record AgreesWithPublished : Type 0 where
   pub holds :
       (coefficients : List ℤ) (h : History) (bytes : List ℕ) (count frames : ℕ)

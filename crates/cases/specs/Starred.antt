@@ -1,6 +1,6 @@
 -- The starred cases of document 01, "Checked by hand", in its order, and the claim that the definitions agree with every one.
--- `proofs/Starred.antt` proves the claim. A case is an input with its outcome; another kind of case is one constructor and one line of `Agrees` more.
--- Assumes nothing.
+-- `proofs/Starred.antt` proves the claim. A case is an input with its outcome; another kind of case is one constructor and one line of
+-- `Agrees` more. Assumes nothing.
 use Prim.Native.Nat.{ℕ}
 use mathlib.Core.Path.{_≡_}
 use mathlib.Core.Bool.{false}
@@ -64,7 +64,8 @@ starred =
     ∷ counters 0 65535 0
     ∷ counters 65534 65535 1
     ∷ dsp32 (1 ∷ 0 ∷ 69 ∷ 35 ∷ []) 74565
-    ∷ decode (replicate 16 (pos 0)) (history (pos 0) (pos 0)) (0 ∷ 31 ∷ 112 ∷ replicate 5 0) 3 (pos 1 ∷ negsuc 0 ∷ pos 7 ∷ []) (history (pos 7) (negsuc 0))
+    ∷ decode (replicate 16 (pos 0)) (history (pos 0) (pos 0)) (0 ∷ 31 ∷ 112 ∷ replicate 5 0) 3 (pos 1 ∷ negsuc 0 ∷ pos 7 ∷ [])
+    (history (pos 7) (negsuc 0))
     ∷ step (replicate 16 (negsuc 32767)) (history (negsuc 32767) (negsuc 32767)) (replicate 8 0) (negsuc 32767) (pos 32767)
     ∷ step (replicate 16 (pos 0)) (history (pos 0) (pos 0)) (15 ∷ 128 ∷ replicate 6 0) (negsuc 32767) (negsuc 32767)
     ∷ between (pos 0) (negsuc 2) half (negsuc 0)

@@ -1,4 +1,5 @@
--- The entries that a configuration would add to the queue, read with a format and a number of channels. Assumes nothing: these are definitions.
+-- The entries that a configuration would add to the queue, read with a format and a number of channels. Assumes nothing: these are
+-- definitions.
 use Prim.Native.Nat.{ℕ, zero, suc, _+_, _/_, _%_, _^_}
 use mathlib.Core.Bool.{Bool, true, false, not, _&&_, cond}
 use mathlib.Core.List.{List, [], _∷_, _++_}
@@ -17,7 +18,7 @@ use Rattle.config.specs.Dirty.{flag, «BUFFER_QUEUE», «PLAY_POSITION»
 abbrev pub historyAt : Bool → List ℕ → ℕ → History
 historyAt mark bytes at = cond mark (record { yn1 = signed16 (at16 bytes at); yn2 = signed16 (at16 bytes (at + 2)) }) blankHistory
 
--- "PLAY_POSITION": read only if flagged
+-- the play position: read only if flagged
 abbrev pub positionIn : List ℕ → ℕ
 positionIn bytes = cond (flag bytes «PLAY_POSITION») (atDsp32 bytes (offsetOf configuration "PLAY_POSITION")) 0
 

@@ -12,15 +12,16 @@ use Rattle.config.specs.declared.parse.Configured.{Configured}
 use Rattle.config.specs.Dirty.{dirtyIn, flag, «BUFFER_QUEUE»}
 use Rattle.config.specs.Entries.{added}
 use Rattle.config.specs.Refusal.{refusalOf}
-use Rattle.config.specs.Steps.{resetStep, partialResetStep, enableStep, syncStep, rateStep, interpolationStep, coefficientsStep, gainStep, filtersStep, formatStep, stereoStep, lengthenStep, pushedAll}
+use Rattle.config.specs.Steps.{resetStep, partialResetStep, enableStep, syncStep, rateStep, interpolationStep, coefficientsStep}
+use Rattle.config.specs.Steps.{gainStep, filtersStep, formatStep, stereoStep, lengthenStep, pushedAll}
 
 -- steps taken in turn, the first one first
 abbrev pub inTurn : List (Voice → Voice) → Voice → Voice
 inTurn [] v = v
 inTurn (step ∷ steps) v = inTurn steps (step v)
 
--- "Order: reset, partial reset, enable, sync, rate, interpolation, coefficients, gains, filters, format, position, lengthening": the position is read
--- with the embedded entry, which alone has one. In three runs: what plays, how it sounds, and what the entries will be.
+-- "Order: reset, partial reset, enable, sync, rate, interpolation, coefficients, gains, filters, format, position, lengthening": the
+-- position is read with the embedded entry, which alone has one. In three runs: what plays, how it sounds, and what the entries will be.
 module _ (bytes : List ℕ) where
   abbrev pub playSteps : List (Voice → Voice)
   playSteps = resetStep bytes ∷ partialResetStep bytes ∷ enableStep bytes ∷ syncStep bytes ∷ rateStep bytes ∷ interpolationStep bytes ∷ []

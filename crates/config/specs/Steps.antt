@@ -1,6 +1,6 @@
--- What each flag of the dirty word does to a record, one definition for each step of document 01's order: "reset, partial reset, enable, sync, rate,
--- interpolation, coefficients, gains, filters, format, position, lengthening (PARTIAL_EMBEDDED_BUFFER), embedded entry, slots 0 to 3". Where its flag is
--- not set a step leaves the record alone. Assumes nothing: these are definitions.
+-- What each flag of the dirty word does to a record, one definition for each step of document 01's order: "reset, partial reset, enable,
+-- sync, rate, interpolation, coefficients, gains, filters, format, position, lengthening (PARTIAL_EMBEDDED_BUFFER), embedded entry, slots 0
+-- to 3". Where its flag is not set a step leaves the record alone. Assumes nothing: these are definitions.
 use Prim.Native.Nat.{ℕ, max, _+_, _-_, _*_, _/_, _%_, _^_}
 use mathlib.Core.Bool.{Bool, true, false, not, _&&_, _||_, cond}
 use mathlib.Core.List.{List, [], _∷_}
@@ -16,14 +16,18 @@ use Rattle.memory.specs.Fields.{offsetOf, configuration, gainAt}
 use Rattle.filters.specs.Defaults.{defaultSimple, defaultBiquad}
 use Rattle.filters.specs.declared.state.Filters.{Filters}
 use Rattle.voice.specs.Blank.{defaultVoice}
-use Rattle.voice.specs.Set.{set-entry-length, set-voice-enabled, set-voice-sync-count, set-voice-rate, set-voice-kinds, set-voice-stereo, set-voice-filters, set-voice-gain, set-voice-has-ramp, set-voice-ramp, set-voice-coefficients, set-voice-queue, set-voice-queued, set-voice-playing, set-voice-length, set-voice-remaining, set-voice-ran-out-at-frame-end}
+use Rattle.voice.specs.Set.{set-entry-length, set-voice-enabled, set-voice-sync-count, set-voice-rate, set-voice-kinds, set-voice-stereo}
+use Rattle.voice.specs.Set.{set-voice-filters, set-voice-gain, set-voice-has-ramp, set-voice-ramp, set-voice-coefficients, set-voice-queue}
+use Rattle.voice.specs.Set.{set-voice-queued, set-voice-playing, set-voice-length, set-voice-remaining, set-voice-ran-out-at-frame-end}
 use Rattle.voice.specs.declared.record.Entry.{Entry}
 use Rattle.voice.specs.declared.record.Format.{Format}
 use Rattle.voice.specs.declared.record.Format.the-variants.{Pcm8, Pcm16, Adpcm}
 use Rattle.voice.specs.declared.record.Interpolation.{Interpolation}
 use Rattle.voice.specs.declared.record.Interpolation.the-variants.{Polyphase, Linear, None}
 use Rattle.voice.specs.declared.record.Voice.{Voice}
-use Rattle.config.specs.Dirty.{flag, FORMAT, «MONO_OR_STEREO», «ADPCM_COEFFICIENTS», «PARTIAL_EMBEDDED_BUFFER», «PARTIAL_RESET», ENABLE, INTERPOLATION, «RATE_MULTIPLIER», «FILTERS_ENABLED», «SIMPLE_FILTER», «BIQUAD_FILTER», GAIN, «SYNC_COUNT», RESET, «EMBEDDED_BUFFER»}
+use Rattle.config.specs.Dirty.{flag, FORMAT, «MONO_OR_STEREO», «ADPCM_COEFFICIENTS», «PARTIAL_EMBEDDED_BUFFER», «PARTIAL_RESET»}
+use Rattle.config.specs.Dirty.{ENABLE, INTERPOLATION, «RATE_MULTIPLIER», «FILTERS_ENABLED», «SIMPLE_FILTER», «BIQUAD_FILTER», GAIN}
+use Rattle.config.specs.Dirty.{«SYNC_COUNT», RESET, «EMBEDDED_BUFFER»}
 
 -- interpolation byte: 1 linear, 2 none, any other polyphase
 abbrev pub interpolationOf : ℕ → Interpolation
@@ -66,8 +70,8 @@ module _ (bytes : List ℕ) where
 
   unfoldable pub interpolationStep : Voice → Voice
   interpolationStep v =
-      cond (flag bytes INTERPOLATION)
-      (set-voice-kinds (record { format = v .kinds .format; interpolation = interpolationOf (getD bytes (offsetOf configuration "INTERPOLATION") 0) }) v) v
+      let mode = getD bytes (offsetOf configuration "INTERPOLATION") 0 in
+      cond (flag bytes INTERPOLATION) (set-voice-kinds (record { format = v .kinds .format; interpolation = interpolationOf mode }) v) v
 
   -- the 16 coefficients, from the voice's 32 bytes of them
   unfoldable pub coefficientsStep : List ℕ → Voice → Voice

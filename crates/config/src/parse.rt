@@ -14,7 +14,8 @@ ghost use mathlib.Core.Path.{_≡_};
 ghost use Prim.Native.Nat.{_≤_};
 ghost use lib.ListN.{length};
 ghost use Rattle.voice.specs.Blank.{limit};
-ghost use Rattle.config.specs.Parsed.{inTurn, playSteps, soundSteps, lastSteps, settled, configured, slotsCleared, cleared, bytesAfter};
+ghost use Rattle.config.specs.Parsed.{inTurn, playSteps, soundSteps, lastSteps, settled, configured, slotsCleared, cleared};
+ghost use Rattle.config.specs.Parsed.{bytesAfter};
 
 // What a configuration comes to: 0, or the number of the refusal, and the record.
 pub struct Configured {
@@ -90,7 +91,10 @@ pub fn configure(v: Voice, bytes: &mut [u8], coefficients: &[u8], lane: usize) -
     ensures bytes { λ _. ⌜ now (bytes .exit) ≡ bytesAfter (now (bytes .entry)) (now (coefficients .entry)) v lane ⌝ }
 {
     if little::read32(bytes, config::DIRTY) == 0 {
-        return Configured { number: 0, voice: v };
+        return Configured {
+            number: 0,
+            voice: v,
+        };
     }
     let w = settle(v, bytes, coefficients);
     let kinds = w.kinds;

@@ -21,7 +21,8 @@ ghost use Rattle.numbers.specs.Wrap.{signed16};
 ghost use Rattle.memory.specs.Little.{at16};
 ghost use Rattle.voice.specs.Set.{set-entry-length};
 ghost use Rattle.config.specs.Dirty.{flag};
-ghost use Rattle.config.specs.Steps.{interpolationOf, formatIn, resetStep, partialResetStep, enableStep, syncStep, rateStep, interpolationStep, coefficientsStep, formatStep, stereoStep, lengthenStep};
+ghost use Rattle.config.specs.Steps.{interpolationOf, formatIn, resetStep, partialResetStep, enableStep, syncStep, rateStep};
+ghost use Rattle.config.specs.Steps.{interpolationStep, coefficientsStep, formatStep, stereoStep, lengthenStep};
 
 pub fn reset_step(v: Voice, bytes: &[u8]) -> Voice
     requires { ⌜ length (now bytes) ≡ 192 ⌝ }

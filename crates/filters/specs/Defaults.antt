@@ -1,4 +1,5 @@
--- The filters as they are before a title sets them, which is also what stands under a mark that is off. Assumes nothing: these are definitions.
+-- The filters as they are before a title sets them, which is also what stands under a mark that is off. Assumes nothing: these are
+-- definitions.
 use mathlib.Core.Bool.{false}
 use mathlib.Core.List.{[], _∷_}
 use lib.IntN.{pos}

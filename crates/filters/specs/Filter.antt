@@ -1,5 +1,5 @@
--- Module 3 of document 01, one sample of one channel through each filter: "Simple, shift 15, then biquad, shift 14, sums wrapped to 32 bits, clamped.
--- They run on produced samples only. Defaults are identities." Assumes nothing: these are definitions.
+-- Module 3 of document 01, one sample of one channel through each filter: "Simple, shift 15, then biquad, shift 14, sums wrapped to 32
+-- bits, clamped. They run on produced samples only. Defaults are identities." Assumes nothing: these are definitions.
 use Prim.Native.Nat.{ℕ, _+_}
 use mathlib.Core.List.{List}
 use lib.ListN.{getD, set}
@@ -25,10 +25,13 @@ simpleAfter channel f value = record { b0 = f .b0; a1 = f .a1; y1 = set (f .y1) 
 
 -- ---- "then biquad, shift 14"
 
--- b0 x0 + b1 x1 + b2 x2 + a1 y1 + a2 y2, a whole number. Of x and y the newer value of a channel stands at its number, the older two places on
+-- b0 x0 + b1 x1 + b2 x2 + a1 y1 + a2 y2, a whole number. Of x and y the newer value of a channel stands at its number, the older two places
+-- on
 unfoldable pub biquadSum : ℕ → BiquadFilter → ℤ → ℤ
 biquadSum channel f x0 =
-    getD (f .b) 0 (pos 0) *ℤ x0 +ℤ getD (f .b) 1 (pos 0) *ℤ getD (f .x) channel (pos 0) +ℤ getD (f .b) 2 (pos 0) *ℤ getD (f .x) (channel + 2) (pos 0)
+    getD (f .b) 0 (pos 0) *ℤ x0
+    +ℤ getD (f .b) 1 (pos 0) *ℤ getD (f .x) channel (pos 0)
+    +ℤ getD (f .b) 2 (pos 0) *ℤ getD (f .x) (channel + 2) (pos 0)
     +ℤ getD (f .a) 0 (pos 0) *ℤ getD (f .y) channel (pos 0)
     +ℤ getD (f .a) 1 (pos 0) *ℤ getD (f .y) (channel + 2) (pos 0)
 

@@ -12,7 +12,12 @@ unfoldable pub passSimple : ℕ → Filters → ℤ → Passed
 passSimple channel f x =
     let value = simpleValue channel (f .simple) x in
     cond (f .«has_simple») (record {
-      filters = record { «has_simple» = f .«has_simple»; simple = simpleAfter channel (f .simple) value; «has_biquad» = f .«has_biquad»; biquad = f .biquad };
+      filters = record {
+        «has_simple» = f .«has_simple»;
+        simple = simpleAfter channel (f .simple) value;
+        «has_biquad» = f .«has_biquad»;
+        biquad = f .biquad;
+      };
       value = value;
     })
     (record { filters = f; value = x })
@@ -21,7 +26,12 @@ unfoldable pub passBiquad : ℕ → Filters → ℤ → Passed
 passBiquad channel f x =
     let value = biquadValue channel (f .biquad) x in
     cond (f .«has_biquad») (record {
-      filters = record { «has_simple» = f .«has_simple»; simple = f .simple; «has_biquad» = f .«has_biquad»; biquad = biquadAfter channel (f .biquad) x value };
+      filters = record {
+        «has_simple» = f .«has_simple»;
+        simple = f .simple;
+        «has_biquad» = f .«has_biquad»;
+        biquad = biquadAfter channel (f .biquad) x value;
+      };
       value = value;
     })
     (record { filters = f; value = x })

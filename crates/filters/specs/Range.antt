@@ -1,5 +1,5 @@
--- What a well-formed record's filters keep to: malformed is "a filter coefficient or filter state outside -32768 to 32768". Data under an off mark
--- count for nothing. Assumes nothing: these are definitions.
+-- What a well-formed record's filters keep to: malformed is "a filter coefficient or filter state outside -32768 to 32768". Data under an
+-- off mark count for nothing. Assumes nothing: these are definitions.
 use mathlib.Core.Bool.{Bool, true, _&&_, cond}
 use mathlib.Core.List.{List, [], _∷_}
 use lib.Dec.{leb}

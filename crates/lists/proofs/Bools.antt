@@ -3,6 +3,7 @@ use mathlib.Core.Path.{_≡_, refl, ap}
 use Prim.Native.Nat.{ℕ, suc}
 use native.Mathlib.Omega.{arith}
 use mathlib.Core.Bool.{Bool, true, false, not, _&&_, _||_, cond}
+use mathlib.Core.Logic.{_⊎_, inl, inr}
 use lib.Dec.{T}
 
 pub and-no : {x : Bool} (y : Bool) → x ≡ false → (x && y) ≡ false
@@ -46,6 +47,20 @@ or-neither true y f = (f, clash f)
     clash : {z : Bool} → true ≡ false → z ≡ false
     clash e = cc
 or-neither false y f = (refl, f)
+
+-- one of two tests passes, or fails
+pub or-one : (x y : Bool) → (x || y) ≡ true → (x ≡ true) ⊎ (y ≡ true)
+or-one true y t = inl refl
+or-one false y t = inr t
+
+pub and-one : (x y : Bool) → (x && y) ≡ false → (x ≡ false) ⊎ (y ≡ false)
+and-one true y f = inr f
+and-one false y f = inl refl
+
+-- what holds of both holds of the one that is chosen
+pub cond-either : {A : Type 0} (P : A → Type 0) (b : Bool) (x y : A) → P x → P y → P (cond b x y)
+cond-either P true x y p q = p
+cond-either P false x y p q = q
 
 -- a chain of tests, each with a number above 0, that gives 0: the first test failed, and the rest of the chain gives 0
 pub passed : (x : Bool) (n rest : ℕ) → cond x (suc n) rest ≡ 0 → (x ≡ false) × (rest ≡ 0)

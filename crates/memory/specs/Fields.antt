@@ -35,7 +35,8 @@ abbrev pub has : List Entry → String → Bool
 has [] name = false
 has (e ∷ es) name = isField name e || has es name
 
--- A number where a name is known; where it is not, something that is no number. So a misspelt name is refused wherever a number is asked for.
+-- A number where a name is known; where it is not, something that is no number. So a misspelt name is refused wherever a number is asked
+-- for.
 abbrev pub Known : Bool → Type 0
 Known true = ℕ
 Known false = Unit {0}

@@ -14,7 +14,7 @@ use Rattle.memory.specs.Places.{regionMost, placesOf, inside, apart, layoutNumb
 use Rattle.memory.specs.declared.layout.Layout.{Layout}
 use Rattle.memory.proofs.Places as places
 use Rattle.mixer.specs.declared.state.Mixer.{Mixer}
-use Rattle.mixer.specs.Sizes.{mixesSize}
+use Rattle.numbers.specs.Sizes.{MIXES}
 use Rattle.mixer.specs.Tick.{Outcome, numberOf, accepted, refused, ticked}
 use Rattle.mixer.specs.Exactly.{Gives, NoneOfThree, ExactlyIf, RefusedLeavesAll}
 use Rattle.mixer.proofs.Outcomes.{by-layout, by-mixes, by-region, none, refusal}
@@ -77,7 +77,7 @@ module _ (l : Layout) (m : Mixer) (mixes : List ℤ) (which : ℕ) (first second
       go false h = refl
 
   by-chain : (k : ℕ) → 0 < k → k ≤ 3 → Gives l m mixes which first second k → layout ≡ k
-  by-chain k p q e = gives-layout (eqb layout 0) (eqb (length mixes) mixesSize) (ltb 1 which) layout k p q (sym number-is ∙ e)
+  by-chain k p q e = gives-layout (eqb layout 0) (eqb (length mixes) MIXES) (ltb 1 which) layout k p q (sym number-is ∙ e)
 
   chained : (k : ℕ) → 0 < k → layout ≡ k → Gives l m mixes which first second k
   chained k p e = number-is ∙ by-layout (length first) (length second) l (length mixes) which (λ z. omega arith) ∙ e
@@ -88,20 +88,20 @@ module _ (l : Layout) (m : Mixer) (mixes : List ℤ) (which : ℕ) (first second
   yes-layout : eqb layout 0 ≡ true → NoneOfThree l m mixes which first second
   yes-layout e = exactly .none .0 (eqb-true layout 0 e)
 
-  only-zero : number ≡ 0 → NoneOfThree l m mixes which first second × (length mixes ≡ mixesSize) × (which ≤ 1)
+  only-zero : number ≡ 0 → NoneOfThree l m mixes which first second × (length mixes ≡ MIXES) × (which ≤ 1)
   only-zero e =
-      let t = gives-zero (eqb layout 0) (eqb (length mixes) mixesSize) (ltb 1 which) layout (eqb-false layout 0) e in
-      (yes-layout (t .0), eqb-true (length mixes) mixesSize (t .1), ltb-false 1 which (t .2))
+      let t = gives-zero (eqb layout 0) (eqb (length mixes) MIXES) (ltb 1 which) layout (eqb-false layout 0) e in
+      (yes-layout (t .0), eqb-true (length mixes) MIXES (t .1), ltb-false 1 which (t .2))
 
-  only-six : number ≡ 6 → NoneOfThree l m mixes which first second × (length mixes ≡ mixesSize → ⊥)
+  only-six : number ≡ 6 → NoneOfThree l m mixes which first second × (length mixes ≡ MIXES → ⊥)
   only-six e =
-      let t = gives-six (eqb layout 0) (eqb (length mixes) mixesSize) (ltb 1 which) layout few e in
-      (yes-layout (t .0), eqb-false (length mixes) mixesSize (t .1))
+      let t = gives-six (eqb layout 0) (eqb (length mixes) MIXES) (ltb 1 which) layout few e in
+      (yes-layout (t .0), eqb-false (length mixes) MIXES (t .1))
 
-  only-eight : number ≡ 8 → NoneOfThree l m mixes which first second × (length mixes ≡ mixesSize) × (1 < which)
+  only-eight : number ≡ 8 → NoneOfThree l m mixes which first second × (length mixes ≡ MIXES) × (1 < which)
   only-eight e =
-      let t = gives-eight (eqb layout 0) (eqb (length mixes) mixesSize) (ltb 1 which) layout few e in
-      (yes-layout (t .0), eqb-true (length mixes) mixesSize (t .1), ltb-true 1 which (t .2))
+      let t = gives-eight (eqb layout 0) (eqb (length mixes) MIXES) (ltb 1 which) layout few e in
+      (yes-layout (t .0), eqb-true (length mixes) MIXES (t .1), ltb-true 1 which (t .2))
 
   pub exactly-if : ExactlyIf l m mixes which first second
   exactly-if = record {

@@ -12,23 +12,23 @@ use Rattle.memory.specs.Places.{layoutNumber}
 use Rattle.memory.specs.declared.layout.Layout.{Layout}
 use Rattle.memory.proofs.Places as places
 use Rattle.mixer.specs.declared.state.Mixer.{Mixer}
-use Rattle.mixer.specs.Sizes.{mixesSize}
+use Rattle.numbers.specs.Sizes.{MIXES}
 use Rattle.mixer.specs.Tick.{Roomy, numberOf, Outcome, accepted, refused, ticked}
 
 module _ (first second : ℕ) (l : Layout) (mixes which : ℕ) where
   pub by-layout : (layoutNumber first second l ≡ 0 → ⊥) → numberOf first second l mixes which ≡ layoutNumber first second l
   by-layout h = cond-no _ _ (ne-eqb (layoutNumber first second l) 0 h)
 
-  pub by-mixes : layoutNumber first second l ≡ 0 → (mixes ≡ mixesSize → ⊥) → numberOf first second l mixes which ≡ 6
-  by-mixes e h = cond-yes _ _ (eq-eqb (layoutNumber first second l) 0 e) ∙ cond-yes _ _ (not-no (ne-eqb mixes mixesSize h))
+  pub by-mixes : layoutNumber first second l ≡ 0 → (mixes ≡ MIXES → ⊥) → numberOf first second l mixes which ≡ 6
+  by-mixes e h = cond-yes _ _ (eq-eqb (layoutNumber first second l) 0 e) ∙ cond-yes _ _ (not-no (ne-eqb mixes MIXES h))
 
-  pub by-region : layoutNumber first second l ≡ 0 → mixes ≡ mixesSize → 1 < which → numberOf first second l mixes which ≡ 8
+  pub by-region : layoutNumber first second l ≡ 0 → mixes ≡ MIXES → 1 < which → numberOf first second l mixes which ≡ 8
   by-region e m h =
-      cond-yes _ _ (eq-eqb (layoutNumber first second l) 0 e) ∙ cond-no _ _ (not-yes (eq-eqb mixes mixesSize m)) ∙ cond-yes _ _ (lt-ltb 1 which h)
+      cond-yes _ _ (eq-eqb (layoutNumber first second l) 0 e) ∙ cond-no _ _ (not-yes (eq-eqb mixes MIXES m)) ∙ cond-yes _ _ (lt-ltb 1 which h)
 
-  pub none : layoutNumber first second l ≡ 0 → mixes ≡ mixesSize → which ≤ 1 → numberOf first second l mixes which ≡ 0
+  pub none : layoutNumber first second l ≡ 0 → mixes ≡ MIXES → which ≤ 1 → numberOf first second l mixes which ≡ 0
   none e m h =
-      cond-yes _ _ (eq-eqb (layoutNumber first second l) 0 e) ∙ cond-no _ _ (not-yes (eq-eqb mixes mixesSize m)) ∙ cond-no _ _ (le-ltb 1 which h)
+      cond-yes _ _ (eq-eqb (layoutNumber first second l) 0 e) ∙ cond-no _ _ (not-yes (eq-eqb mixes MIXES m)) ∙ cond-no _ _ (le-ltb 1 which h)
 
   -- an accepted layout has room for what the mixer uses
   pub roomy : layoutNumber first second l ≡ 0 → Roomy l first
@@ -48,14 +48,14 @@ module _ (l : Layout) (m : Mixer) (mixes : List ℤ) (which : ℕ) (first second
       → refused l m mixes which first second (layoutNumber (length first) (length second) l) ≡ ticked l m mixes which first second
   refused-layout h = refusal _ (by-layout (length first) (length second) l (length mixes) which h) h
 
-  pub refused-mixes : layoutNumber (length first) (length second) l ≡ 0 → (length mixes ≡ mixesSize → ⊥)
+  pub refused-mixes : layoutNumber (length first) (length second) l ≡ 0 → (length mixes ≡ MIXES → ⊥)
       → refused l m mixes which first second 6 ≡ ticked l m mixes which first second
   refused-mixes e h = refusal 6 (by-mixes (length first) (length second) l (length mixes) which e h) (λ z. six z)
     where
       six : _≡_ {A = ℕ} 6 0 → ⊥
       six z = omega arith
 
-  pub refused-region : layoutNumber (length first) (length second) l ≡ 0 → length mixes ≡ mixesSize → 1 < which
+  pub refused-region : layoutNumber (length first) (length second) l ≡ 0 → length mixes ≡ MIXES → 1 < which
       → refused l m mixes which first second 8 ≡ ticked l m mixes which first second
   refused-region e k h = refusal 8 (by-region (length first) (length second) l (length mixes) which e k h) (λ z. eight z)
     where

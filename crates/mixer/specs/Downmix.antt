@@ -9,7 +9,7 @@ use Rattle.numbers.specs.Casts.{cast-i32, single}
 use Rattle.numbers.specs.Single.{_⊕_, _⊗_, _⊘_}
 use Rattle.numbers.specs.Wrap.{clamp16}
 use Rattle.lists.specs.Tabulate.{tabulate}
-use Rattle.mixer.specs.Sizes.{frameSize}
+use Rattle.numbers.specs.Sizes.{FRAME}
 use Rattle.mixer.specs.State.{volumeOf}
 use Rattle.mixer.specs.Mixes.{valueAt}
 use Rattle.mixer.specs.declared.state.Mixer.{Mixer}
@@ -49,7 +49,7 @@ partAt Stereo volume mix k = stereo-part volume (valueAt mix (k % 2) (k / 2)) (v
 
 -- a frame with a mix's part added to each value
 unfoldable pub mixedIn : Output → Float → List ℤ → List ℤ → List ℤ
-mixedIn output volume mix frame = tabulate (λ k. added (getD frame k (pos 0)) (partAt output volume mix k)) frameSize
+mixedIn output volume mix frame = tabulate (λ k. added (getD frame k (pos 0)) (partAt output volume mix k)) FRAME
 
 -- mix k is added at the state's volume k, by the state's output kind
 abbrev pub downmixed : Mixer → ℕ → List ℤ → List ℤ → List ℤ

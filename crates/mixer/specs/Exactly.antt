@@ -8,7 +8,7 @@ use lib.IntN.{ℤ}
 use lib.ListN.{length}
 use Rattle.memory.specs.Exactly.{LengthsWrong, EndsPast, ShareByte}
 use Rattle.memory.specs.declared.layout.Layout.{Layout}
-use Rattle.mixer.specs.Sizes.{mixesSize}
+use Rattle.numbers.specs.Sizes.{MIXES}
 use Rattle.mixer.specs.Tick.{Outcome, silence, ticked}
 use Rattle.mixer.specs.declared.state.Mixer.{Mixer}
 
@@ -36,14 +36,14 @@ module _ (l : Layout) (m : Mixer) (mixes : List ℤ) (which : ℕ) (first second
   -- "Given exactly if"
   pub record ExactlyIf : Type 0 where
     -- "no whole-call number applies"
-    pub zero : Gives 0 ↔ NoneOfThree × (length mixes ≡ mixesSize) × (which ≤ 1)
+    pub zero : Gives 0 ↔ NoneOfThree × (length mixes ≡ MIXES) × (which ≤ 1)
     pub one : Gives 1 ↔ One
     pub two : Gives 2 ↔ (One → ⊥) × Two
     pub three : Gives 3 ↔ (One → ⊥) × (Two → ⊥) × Three
     -- "the mix buffer is not 1,920 signed 32-bit numbers", and no lower number applies
-    pub six : Gives 6 ↔ NoneOfThree × (length mixes ≢ mixesSize)
+    pub six : Gives 6 ↔ NoneOfThree × (length mixes ≢ MIXES)
     -- "the mixer's region number exceeds 1", and no lower number applies
-    pub eight : Gives 8 ↔ NoneOfThree × (length mixes ≡ mixesSize) × (1 < which)
+    pub eight : Gives 8 ↔ NoneOfThree × (length mixes ≡ MIXES) × (1 < which)
 
   -- "A refused mixer call gives a zero frame and the state it was given", and in both regions there is "nothing written"
   pub record LeavesAll : Type 0 where

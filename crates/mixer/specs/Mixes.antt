@@ -8,15 +8,15 @@ use Rattle.lists.specs.Splice.{part}
 use Rattle.lists.specs.Tabulate.{tabulate}
 use Rattle.numbers.specs.Wrap.{modZ, signed32}
 use Rattle.memory.specs.Little.{at32, bytes16, bytes32}
-use Rattle.mixer.specs.Sizes.{frameSamples, mixSize}
+use Rattle.numbers.specs.Sizes.{«FRAME_SAMPLES», MIX}
 
 -- mix k of the three
 abbrev pub mixOf : ℕ → List ℤ → List ℤ
-mixOf k mixes = part (k * mixSize) mixSize mixes
+mixOf k mixes = part (k * MIX) MIX mixes
 
 -- the value of a sample in a channel of a mix
 abbrev pub valueAt : List ℤ → ℕ → ℕ → ℤ
-valueAt mix channel sample = getD mix (channel * frameSamples + sample) (pos 0)
+valueAt mix channel sample = getD mix (channel * «FRAME_SAMPLES» + sample) (pos 0)
 
 -- a mix as bytes: each value's 32 bits, "little-endian"
 abbrev pub wordOf : ℤ → List ℕ
@@ -27,7 +27,7 @@ wordBytes mix = flatMap wordOf mix
 
 -- the mix that bytes hold
 unfoldable pub wordsIn : List ℕ → List ℤ
-wordsIn bytes = tabulate (λ i. signed32 (at32 bytes (i * 4))) mixSize
+wordsIn bytes = tabulate (λ i. signed32 (at32 bytes (i * 4))) MIX
 
 -- final samples as bytes: each value's 16 bits, "little-endian"
 abbrev pub halfOf : ℤ → List ℕ

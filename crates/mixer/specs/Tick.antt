@@ -9,7 +9,8 @@ use Rattle.lists.specs.Splice.{part, splice}
 use Rattle.memory.specs.Little.{at32}
 use Rattle.memory.specs.Places.{layoutNumber}
 use Rattle.memory.specs.declared.layout.Layout.{Layout}
-use Rattle.mixer.specs.Sizes.{frameSize, mixesSize, configurationBytes, finalBytes, auxBytes, intermediateBytes}
+use Rattle.numbers.specs.Sizes.{FRAME, MIXES}
+use Rattle.mixer.specs.Sizes.{configurationBytes, finalBytes, auxBytes, intermediateBytes}
 use Rattle.mixer.specs.State.{auxOn}
 use Rattle.mixer.specs.Configuration.{configured}
 use Rattle.mixer.specs.Mixes.{mixOf, wordsIn, wordBytes, sampleBytes}
@@ -21,11 +22,11 @@ use Rattle.mixer.specs.declared.tick.Mixed.{Mixed}
 -- the region to be read exceeds 1
 abbrev pub numberOf : ℕ → ℕ → Layout → ℕ → ℕ → ℕ
 numberOf first second l mixes which =
-    cond (eqb (layoutNumber first second l) 0) (cond (not (eqb mixes mixesSize)) 6 (cond (ltb 1 which) 8 0)) (layoutNumber first second l)
+    cond (eqb (layoutNumber first second l) 0) (cond (not (eqb mixes MIXES)) 6 (cond (ltb 1 which) 8 0)) (layoutNumber first second l)
 
 -- 160 pairs of silence
 abbrev pub silence : List ℤ
-silence = replicate frameSize (pos 0)
+silence = replicate FRAME (pos 0)
 
 -- a region after its configuration at a place was read, which begins with the dirty word: as with a voice's, "The dirty word is then 0"
 abbrev pub cleared : ℕ → List ℕ → List ℕ

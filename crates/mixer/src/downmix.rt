@@ -1,16 +1,16 @@
 // The final samples: the part of each mix, clamped, is added in turn and clamped again.
-use crate::sizes::FRAME_SAMPLES;
 use crate::state::Mixer;
 use crate::state::Output;
 use numbers::casts::cast_clamped;
 use numbers::casts::single_of_i32;
 use numbers::ranged::ranged16;
 use numbers::ranged::ranged32;
+use numbers::sizes::FRAME_SAMPLES;
 use numbers::whole::clamped;
 ghost use mathlib.Core.Path.{_≡_};
 ghost use Prim.Native.Nat.{_+_, _*_, _<_};
 ghost use lib.ListN.{length};
-ghost use Rattle.mixer.specs.Sizes.{frameSamples, frameSize, mixSize};
+ghost use Rattle.numbers.specs.Sizes.{«FRAME_SAMPLES», FRAME, MIX};
 ghost use Rattle.mixer.specs.Downmix.{at-volume, mono-part, stereo-part, added, partAt, mixedIn, downmixed};
 
 // Where channels 1, 2 and 3 of a mix begin.
@@ -59,7 +59,7 @@ struct Parts {
 }
 
 fn parts_of(output: Output, volume: f32, mix: &[i32], i: usize) -> Parts
-    requires { ⌜ (length (now mix) ≡ mixSize) × (i < frameSamples) ⌝ }
+    requires { ⌜ (length (now mix) ≡ MIX) × (i < «FRAME_SAMPLES») ⌝ }
     ensures left { λ r. ⌜ r .left ≡ partAt output volume (now (mix .entry)) (i * 2) ⌝ }
     ensures right { λ r. ⌜ r .right ≡ partAt output volume (now (mix .entry)) (i * 2 + 1) ⌝ }
 {
@@ -83,7 +83,7 @@ fn parts_of(output: Output, volume: f32, mix: &[i32], i: usize) -> Parts
 }
 
 fn mix_in(frame: &mut [i16], mix: &[i32], volume: f32, output: Output)
-    requires { ⌜ (length (now frame) ≡ frameSize) × (length (now mix) ≡ mixSize) ⌝ }
+    requires { ⌜ (length (now frame) ≡ FRAME) × (length (now mix) ≡ MIX) ⌝ }
     ensures { λ _. ⌜ now (frame .exit) ≡ mixedIn output volume (now (mix .entry)) (now (frame .entry)) ⌝ }
 {
     let mut i = 0;
@@ -100,7 +100,7 @@ fn mix_in(frame: &mut [i16], mix: &[i32], volume: f32, output: Output)
 
 // Adds mix k to the frame, at its volume. At 0.0 it adds nothing.
 pub fn downmix(frame: &mut [i16], mix: &[i32], state: Mixer, k: usize)
-    requires { ⌜ (length (now frame) ≡ frameSize) × ((length (now mix) ≡ mixSize) × (k < 3)) ⌝ }
+    requires { ⌜ (length (now frame) ≡ FRAME) × ((length (now mix) ≡ MIX) × (k < 3)) ⌝ }
     ensures { λ _. ⌜ now (frame .exit) ≡ downmixed state k (now (mix .entry)) (now (frame .entry)) ⌝ }
 {
     let volumes = state.volume;

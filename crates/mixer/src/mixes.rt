@@ -4,15 +4,16 @@ ghost use mathlib.Core.Bool.{cond};
 ghost use Prim.Native.Nat.{_+_, _≤_};
 ghost use lib.ListN.{length};
 ghost use Rattle.lists.specs.Splice.{splice};
-ghost use Rattle.mixer.specs.Sizes.{frameSize, mixSize, finalBytes, auxBytes};
+ghost use Rattle.numbers.specs.Sizes.{FRAME, MIX};
+ghost use Rattle.mixer.specs.Sizes.{finalBytes, auxBytes};
 ghost use Rattle.mixer.specs.Mixes.{wordsIn, wordBytes, sampleBytes};
-use crate::sizes::AUX_MIX_SIZE;
-use crate::sizes::FINAL_SIZE;
+use crate::sizes::AUX_BYTES;
+use crate::sizes::FINAL_BYTES;
 use memory::little;
 
 // Reads what a title made of a mix.
 fn read_mix(bytes: &[u8], mix: &mut [i32])
-    requires { ⌜ (length (now bytes) ≡ auxBytes) × (length (now mix) ≡ mixSize) ⌝ }
+    requires { ⌜ (length (now bytes) ≡ auxBytes) × (length (now mix) ≡ MIX) ⌝ }
     ensures { λ _. ⌜ now (mix .exit) ≡ wordsIn (now (bytes .entry)) ⌝ }
 {
     let mut i = 0;
@@ -24,7 +25,7 @@ fn read_mix(bytes: &[u8], mix: &mut [i32])
 
 // Writes a mix out for a title to process.
 fn write_mix(bytes: &mut [u8], mix: &[i32])
-    requires { ⌜ (length (now bytes) ≡ auxBytes) × (length (now mix) ≡ mixSize) ⌝ }
+    requires { ⌜ (length (now bytes) ≡ auxBytes) × (length (now mix) ≡ MIX) ⌝ }
     ensures { λ _. ⌜ now (bytes .exit) ≡ wordBytes (now (mix .entry)) ⌝ }
 {
     let mut i = 0;
@@ -36,7 +37,7 @@ fn write_mix(bytes: &mut [u8], mix: &[i32])
 
 // Writes the final samples where a title finds them.
 fn write_frame(bytes: &mut [u8], frame: &[i16])
-    requires { ⌜ (length (now bytes) ≡ finalBytes) × (length (now frame) ≡ frameSize) ⌝ }
+    requires { ⌜ (length (now bytes) ≡ finalBytes) × (length (now frame) ≡ FRAME) ⌝ }
     ensures { λ _. ⌜ now (bytes .exit) ≡ sampleBytes (now (frame .entry)) ⌝ }
 {
     let mut i = 0;
@@ -48,7 +49,7 @@ fn write_frame(bytes: &mut [u8], frame: &[i16])
 
 // A mix as it reaches the output: what the title made of it where its aux bus is on, else as it is.
 pub fn hear(on: bool, returned: &[u8], given: &[i32], mix: &mut [i32])
-    requires { ⌜ (length (now returned) ≡ auxBytes) × ((length (now given) ≡ mixSize) × (length (now mix) ≡ mixSize)) ⌝ }
+    requires { ⌜ (length (now returned) ≡ auxBytes) × ((length (now given) ≡ MIX) × (length (now mix) ≡ MIX)) ⌝ }
     ensures { λ _. ⌜ now (mix .exit) ≡ cond on (wordsIn (now (returned .entry))) (now (given .entry)) ⌝ }
 {
     if on {
@@ -72,20 +73,20 @@ fn copy_mix(given: &[i32], mix: &mut [i32])
 
 // Sends a mix to the title where its aux bus is on.
 pub fn send(on: bool, mix: &[i32], region: &mut [u8], at: usize)
-    requires { ⌜ (at + auxBytes ≤ length (now region)) × (length (now mix) ≡ mixSize) ⌝ }
+    requires { ⌜ (at + auxBytes ≤ length (now region)) × (length (now mix) ≡ MIX) ⌝ }
     ensures { λ _. ⌜ now (region .exit) ≡ cond on (splice (now (region .entry)) at (wordBytes (now (mix .entry)))) (now (region .entry)) ⌝ }
 {
     if on {
-        let end = at + AUX_MIX_SIZE;
+        let end = at + AUX_BYTES;
         write_mix(&mut region[at..end], mix);
     }
 }
 
 // Puts the final samples at their place.
 pub fn put_frame(frame: &[i16], region: &mut [u8], at: usize)
-    requires { ⌜ (at + finalBytes ≤ length (now region)) × (length (now frame) ≡ frameSize) ⌝ }
+    requires { ⌜ (at + finalBytes ≤ length (now region)) × (length (now frame) ≡ FRAME) ⌝ }
     ensures { λ _. ⌜ now (region .exit) ≡ splice (now (region .entry)) at (sampleBytes (now (frame .entry))) ⌝ }
 {
-    let end = at + FINAL_SIZE;
+    let end = at + FINAL_BYTES;
     write_frame(&mut region[at..end], frame);
 }

@@ -2,57 +2,58 @@
 use crate::configuration::parse_config;
 use crate::downmix::downmix;
 use crate::mixes;
-use crate::sizes::AUX_MIX_SIZE;
-use crate::sizes::FRAME_SIZE;
-use crate::sizes::MIX_SIZE;
-use crate::sizes::MIXES_SIZE;
+use crate::sizes::AUX_BYTES;
 use crate::state::Mixer;
 use memory::layout::Layout;
 use memory::little;
 use memory::mixer_config::CONFIG_SIZE;
+use numbers::sizes::FRAME;
+use numbers::sizes::MIX;
+use numbers::sizes::MIXES;
 ghost use mathlib.Core.Path.{_≡_};
 ghost use Prim.Native.Nat.{_+_, _≤_};
 ghost use lib.ListN.{length};
-ghost use Rattle.mixer.specs.Sizes.{frameSize, mixesSize, configurationBytes, intermediateBytes};
+ghost use Rattle.numbers.specs.Sizes.{FRAME, MIXES};
+ghost use Rattle.mixer.specs.Sizes.{configurationBytes, intermediateBytes};
 ghost use Rattle.mixer.specs.Tick.{Roomy, cleared, frameOf, outOf, served, left, refusal, ticked};
 
 // Where mixes 1 and 2 of the three begin.
-const MIX_1: usize = MIX_SIZE;
+const MIX_1: usize = MIX;
 
-const MIX_2: usize = 2 * MIX_SIZE;
+const MIX_2: usize = 2 * MIX;
 
 // What a call gives back: 0, or the number of its refusal; the state; and 160 pairs of final samples.
 pub struct Mixed {
     pub number: u8,
     pub mixer: Mixer,
-    pub frame: [i16; FRAME_SIZE],
+    pub frame: [i16; FRAME],
 }
 
 // The frame that a state makes of the mixes given and those in the region that is read.
-fn frame_of(l: Layout, state: Mixer, read: &[u8], given: &[i32]) -> [i16; FRAME_SIZE]
-    requires { ⌜ (l .«intermediate_samples» + intermediateBytes ≤ length (now read)) × (length (now given) ≡ mixesSize) ⌝ }
+fn frame_of(l: Layout, state: Mixer, read: &[u8], given: &[i32]) -> [i16; FRAME]
+    requires { ⌜ (l .«intermediate_samples» + intermediateBytes ≤ length (now read)) × (length (now given) ≡ MIXES) ⌝ }
     ensures { λ r. ⌜ r ≡ frameOf l state (now (read .entry)) (now (given .entry)) ⌝ }
 {
     let aux = state.aux;
     let start = l.intermediate_samples as usize;
-    let middle = start + AUX_MIX_SIZE;
-    let end = middle + AUX_MIX_SIZE;
-    let mut first = [0i32; MIX_SIZE];
+    let middle = start + AUX_BYTES;
+    let end = middle + AUX_BYTES;
+    let mut first = [0i32; MIX];
     mixes::hear(
         aux[0],
         &read[start..middle],
         &given[MIX_1..MIX_2],
         &mut first,
     );
-    let mut second = [0i32; MIX_SIZE];
+    let mut second = [0i32; MIX];
     mixes::hear(
         aux[1],
         &read[middle..end],
-        &given[MIX_2..MIXES_SIZE],
+        &given[MIX_2..MIXES],
         &mut second,
     );
-    let mut frame = [0i16; FRAME_SIZE];
-    downmix(&mut frame, &given[0..MIX_SIZE], state, 0);
+    let mut frame = [0i16; FRAME];
+    downmix(&mut frame, &given[0..MIX], state, 0);
     downmix(&mut frame, &first, state, 1);
     downmix(&mut frame, &second, state, 2);
     frame
@@ -60,18 +61,13 @@ fn frame_of(l: Layout, state: Mixer, read: &[u8], given: &[i32]) -> [i16; FRAME_
 
 // Writes the mixes that go to the title, and the final samples.
 fn write_out(l: Layout, state: Mixer, given: &[i32], frame: &[i16], write: &mut [u8])
-    requires { ⌜ Roomy l (length (now write)) × ((length (now given) ≡ mixesSize) × (length (now frame) ≡ frameSize)) ⌝ }
+    requires { ⌜ Roomy l (length (now write)) × ((length (now given) ≡ MIXES) × (length (now frame) ≡ FRAME)) ⌝ }
     ensures { λ _. ⌜ now (write .exit) ≡ outOf l state (now (given .entry)) (now (frame .entry)) (now (write .entry)) ⌝ }
 {
     let aux = state.aux;
     let start = l.intermediate_samples as usize;
     mixes::send(aux[0], &given[MIX_1..MIX_2], write, start);
-    mixes::send(
-        aux[1],
-        &given[MIX_2..MIXES_SIZE],
-        write,
-        start + AUX_MIX_SIZE,
-    );
+    mixes::send(aux[1], &given[MIX_2..MIXES], write, start + AUX_BYTES);
     mixes::put_frame(frame, write, l.final_samples as usize);
 }
 
@@ -87,7 +83,7 @@ fn clear_dirty(read: &mut [u8], at: usize)
 
 // A call that is not refused, by the region that is read and the other one.
 fn mix(l: Layout, m: Mixer, read: &mut [u8], write: &mut [u8], given: &[i32]) -> Mixed
-    requires { ⌜ Roomy l (length (now read)) × ((length (now write) ≡ length (now read)) × (length (now given) ≡ mixesSize)) ⌝ }
+    requires { ⌜ Roomy l (length (now read)) × ((length (now write) ≡ length (now read)) × (length (now given) ≡ MIXES)) ⌝ }
     ensures answer { λ r. ⌜ r ≡ served l m (now (given .entry)) (now (read .entry)) ⌝ }
     ensures read { λ _. ⌜ now (read .exit) ≡ left l m (now (given .entry)) (now (read .entry), now (write .entry)) .0 ⌝ }
     ensures written { λ _. ⌜ now (write .exit) ≡ left l m (now (given .entry)) (now (read .entry), now (write .entry)) .1 ⌝ }
@@ -112,7 +108,7 @@ fn refuse(number: u8, mixer: Mixer) -> Mixed
     Mixed {
         number,
         mixer,
-        frame: [0i16; FRAME_SIZE],
+        frame: [0i16; FRAME],
     }
 }
 
@@ -133,7 +129,7 @@ pub fn tick(
     if number != 0 {
         return refuse(number, m);
     }
-    if given.len() != MIXES_SIZE {
+    if given.len() != MIXES {
         return refuse(6, m);
     }
     if which > 1 {

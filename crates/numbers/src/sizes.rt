@@ -8,3 +8,6 @@ pub const FRAME: usize = 320;
 
 // The values of one mix: four channels, one after the other.
 pub const MIX: usize = 640;
+
+// The values of the three mixes.
+pub const MIXES: usize = 1920;

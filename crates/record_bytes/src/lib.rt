@@ -1,5 +1,5 @@
-// Test only: the record of a voice in 2,456 bytes, as programs and the oracle hand it to each other. Every number is little-endian, a mark is
-// a byte that is on unless it is 0, a float stands by its bits, and one that is not a number reads as 0.
+// Test only: the record of a voice in 2,456 bytes, as programs and the oracle hand it to each other. Every number is little-endian, a mark
+// is a byte that is on unless it is 0, a float stands by its bits, and one that is not a number reads as 0.
 //
 //      0 enabled, 1 stereo: marks                     224 history: 2 x i16
 //      2 sync_count: u16                              228 queued: u32

@@ -1,6 +1,6 @@
-// Replays a fixed list of the oracle's answers: ADPCM decodes. Standard input holds records, each the listing program's input: 16 coefficients
-// and the history, signed, a 16-bit count, and the frames; that many samples and the history after them go out for each. oracle/record wrote
-// the list.
+// Replays a fixed list of the oracle's answers: ADPCM decodes. Standard input holds records, each the listing program's input: 16
+// coefficients and the history, signed, a 16-bit count, and the frames; that many samples and the history after them go out for each.
+// oracle/record wrote the list.
 ghost use mathlib.Core.Path.{_≡_};
 ghost use Prim.Native.Nat.{_<_};
 ghost use lib.ListN.{length};

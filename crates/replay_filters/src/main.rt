@@ -1,6 +1,6 @@
-// Replays a fixed list of the oracle's answers: frames through the filters of voices. Standard input holds jobs: how many pairs of samples were
-// produced, 32 bits, at most 160; a record as record_bytes has it. For each goes out the record after those pairs of its frame went through its
-// filters. A greater count, or filters out of range, end the program. oracle/record wrote the list.
+// Replays a fixed list of the oracle's answers: frames through the filters of voices. Standard input holds jobs: how many pairs of samples
+// were produced, 32 bits, at most 160; a record as record_bytes has it. For each goes out the record after those pairs of its frame went
+// through its filters. A greater count, or filters out of range, end the program. oracle/record wrote the list.
 use filters::state::Filters;
 ghost use mathlib.Core.Path.{_≡_};
 ghost use Prim.Native.Nat.{_≤_};

@@ -1,7 +1,7 @@
 // Replays a fixed list of the oracle's answers: listings of inputs at the edges of what is complete. Standard input holds records: the
-// length of an input, 32 bits; a seed, 16 bits; the 38 bytes of a header. The input is the header and bytes made by a rule from the seed, cut
-// to the length. For each goes out how long its listing is and a sum over all of its bytes, 32 bits each, and the last of it, at most 1,024
-// bytes. oracle/record wrote the list.
+// length of an input, 32 bits; a seed, 16 bits; the 38 bytes of a header. The input is the header and bytes made by a rule from the seed,
+// cut to the length. For each goes out how long its listing is and a sum over all of its bytes, 32 bits each, and the last of it, at most
+// 1,024 bytes. oracle/record wrote the list.
 ghost use Prim.Native.Nat.{_≤_, _<_};
 ghost use Rattle.listing.specs.Sizes.{inputRoom};
 use listing::sizes;

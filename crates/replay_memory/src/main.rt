@@ -1,5 +1,5 @@
-// Replays a fixed list of the oracle's answers: region choice and dsp32. Standard input holds records of 12 bytes, a kind (0: two counters, 1: a
-// dsp32 to read, 2: a number to write as one), 3 zeros and 8 bytes; 4 bytes of answer go out for each. oracle/record wrote the list.
+// Replays a fixed list of the oracle's answers: region choice and dsp32. Standard input holds records of 12 bytes, a kind (0: two counters,
+// 1: a dsp32 to read, 2: a number to write as one), 3 zeros and 8 bytes; 4 bytes of answer go out for each. oracle/record wrote the list.
 ghost use mathlib.Core.Path.{_≡_};
 ghost use lib.ListN.{length};
 use memory::little;

@@ -1,5 +1,6 @@
-// Replays a fixed list of the oracle's answers: frames of the mixer over two regions with the places packed. oracle/recorder gives the form of
-// a record on standard input and of its answer; every byte of a region that a record does not give is 0xA5. oracle/record wrote the list.
+// Replays a fixed list of the oracle's answers: frames of the mixer over two regions with the places packed. oracle/recorder gives the form
+// of a record on standard input and of its answer; every byte of a region that a record does not give is 0xA5. oracle/record wrote the
+// list.
 ghost use mathlib.Core.Path.{_≡_};
 ghost use lib.ListN.{length};
 use memory::layout::Layout;

@@ -1,6 +1,7 @@
 // Serves the configuration reader for the oracle. Standard input holds jobs: the lane's length, 32 bits, at most 65,536; a record as
 // record_bytes has it; its configuration, 192 bytes; its coefficients, 32 bytes. For each go out the number and three zeros, the record and
-// the configuration after it. A malformed record is answered 7, all else as it was. stdin and stdout are a fixed list that oracle/record wrote.
+// the configuration after it. A malformed record is answered 7, all else as it was. stdin and stdout are a fixed list that oracle/record
+// wrote.
 ghost use mathlib.Core.Path.{_≡_};
 ghost use Prim.Native.Nat.{_≤_};
 ghost use lib.ListN.{length};

@@ -1,5 +1,5 @@
--- A voice as serving leaves it: "where the mark is off the data hold one fixed blank after serving", and "after serving, places past the count
--- hold one fixed blank entry". Assumes nothing: these are definitions.
+-- A voice as serving leaves it: "where the mark is off the data hold one fixed blank after serving", and "after serving, places past the
+-- count hold one fixed blank entry". Assumes nothing: these are definitions.
 use Prim.Native.Nat.{ℕ, _/_, _<_, _≤_}
 use mathlib.Core.Bool.{Bool, true, false, cond}
 use mathlib.Core.List.{List}

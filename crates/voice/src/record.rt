@@ -1,6 +1,6 @@
 // The record of a voice. Where the source has an `Option`, a mark stands beside the data.
-use adpcm::History;
 use crate::blank::PLACES;
+use adpcm::History;
 use filters::state::Filters;
 
 pub enum Format {

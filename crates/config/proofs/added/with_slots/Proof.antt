@@ -47,8 +47,10 @@ loop-again c =
     let a = c .before .before .before .before .args in
     let es = slotEntries (a .bytes .now) (a .format) (a .stereo) in
     let so-far = slotsEntries (a .bytes .now) (a .format) (a .stereo) in (
-      omega arith, (
-        ap (λ (n : ℕ). n * 2) (l .inv .1 .0) ∙ sym (rw add-one (pow-suc 2 (l .k))), (
+      omega arith,
+      (
+        ap (λ (n : ℕ). n * 2) (l .inv .1 .0) ∙ sym (rw add-one (pow-suc 2 (l .k))),
+        (
           omega (arith, c .with-slot .ensures .1, l .inv .1 .1 .0),
           c .with-slot .ensures .0
               ∙ ap (λ (x : List Entry). x ++ es (l .k)) (l .inv .1 .1 .1)
