@@ -4,6 +4,7 @@ ghost use Prim.Native.Nat.{_+_, _*_, _≤_, _<_};
 ghost use lib.ListN.{length};
 ghost use Rattle.numbers.specs.Wrap.{signed16};
 ghost use Rattle.memory.specs.Little.{at16};
+ghost use Rattle.listing.specs.Sizes.{header};
 ghost use Rattle.listing.specs.Listing.{coefficientsIn, historyIn, countIn};
 use adpcm::History;
 
@@ -17,7 +18,7 @@ fn signed_at(bytes: &[u8], at: usize) -> i16
 
 // The 16 coefficients.
 pub fn coefficients(bytes: &[u8]) -> [i16; 16]
-    requires { ⌜ 38 ≤ length (now bytes) ⌝ }
+    requires { ⌜ header ≤ length (now bytes) ⌝ }
     ensures { λ r. ⌜ r ≡ coefficientsIn (now (bytes .entry)) ⌝ }
 {
     let mut values = [0i16; 16];
@@ -31,7 +32,7 @@ pub fn coefficients(bytes: &[u8]) -> [i16; 16]
 
 // The history to go on from.
 pub fn history(bytes: &[u8]) -> History
-    requires { ⌜ 38 ≤ length (now bytes) ⌝ }
+    requires { ⌜ header ≤ length (now bytes) ⌝ }
     ensures { λ r. ⌜ r ≡ historyIn (now (bytes .entry)) ⌝ }
 {
     History {
@@ -49,7 +50,7 @@ fn wide(x: u16) -> usize
 
 // How many samples the frames hold.
 pub fn count(bytes: &[u8]) -> usize
-    requires { ⌜ 38 ≤ length (now bytes) ⌝ }
+    requires { ⌜ header ≤ length (now bytes) ⌝ }
     ensures { λ r. ⌜ (r ≡ countIn (now (bytes .entry))) × (r < 65536) ⌝ }
 {
     wide(memory::little::read16(bytes, 36))

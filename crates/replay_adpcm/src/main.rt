@@ -5,8 +5,8 @@ ghost use mathlib.Core.Path.{_≡_};
 ghost use Prim.Native.Nat.{_<_};
 ghost use lib.ListN.{length};
 use listing::input;
-
-const HEADER: usize = 38;
+use listing::sizes::HEADER;
+use listing::sizes::MOST_FRAMES;
 
 // Decodes the frames by the header, and writes the samples and the history after them.
 fn answer(header: &[u8], frames: &[u8], count: usize) -> bool
@@ -36,7 +36,7 @@ fn replay() -> bool {
     }
     let count = input::count(&header);
     let size = (count + 13) / 14 * 8;
-    let mut space = [0u8; 37456];
+    let mut space = [0u8; MOST_FRAMES];
     let frames: &mut [u8] = &mut space[0..size];
     if io::read_full(0, frames) != size {
         return false;
