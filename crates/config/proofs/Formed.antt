@@ -27,9 +27,10 @@ use Rattle.voice.specs.Malformed.{malformed}
 use Rattle.voice.specs.declared.record.Entry.{Entry}
 use Rattle.voice.specs.declared.record.Voice.{Voice}
 use Rattle.voice.proofs.Formed.{not-malformed-formed, formed-not-malformed, default-formed, entries-at, at-entries}
-use Rattle.config.specs.Dirty.{flag, FORMAT, «MONO_OR_STEREO», «ADPCM_COEFFICIENTS», «PARTIAL_EMBEDDED_BUFFER», «PARTIAL_RESET», ENABLE, INTERPOLATION, «RATE_MULTIPLIER», «FILTERS_ENABLED», «SIMPLE_FILTER», «BIQUAD_FILTER», GAIN, «SYNC_COUNT», RESET, «EMBEDDED_BUFFER»}
+use Rattle.settings.specs.Dirty.{flag, FORMAT, «MONO_OR_STEREO», «ADPCM_COEFFICIENTS», «PARTIAL_EMBEDDED_BUFFER», «PARTIAL_RESET», ENABLE, INTERPOLATION, «RATE_MULTIPLIER», «FILTERS_ENABLED», «SIMPLE_FILTER», «BIQUAD_FILTER», GAIN, «SYNC_COUNT», RESET, «EMBEDDED_BUFFER»}
+use Rattle.settings.specs.Steps.{half, resetStep, partialResetStep, enableStep, syncStep, rateStep, interpolationStep, coefficientsStep, gainStep, enabledFilters, simpleFilters, biquadFilters, filtersStep, formatStep, stereoStep, lengthenStep}
 use Rattle.config.specs.Laws.{Keeps, KeepsFormed}
-use Rattle.config.specs.Steps.{half, resetStep, partialResetStep, enableStep, syncStep, rateStep, interpolationStep, coefficientsStep, gainStep, enabledFilters, simpleFilters, biquadFilters, filtersStep, formatStep, stereoStep, lengthenStep, pushed}
+use Rattle.config.specs.Queue.{pushed}
 use Rattle.config.proofs.Kept.{whole-keeps}
 
 -- ---- the rate that is read

@@ -13,12 +13,12 @@ use Rattle.voice.specs.Blank.{limit}
 use Rattle.voice.specs.Long.{tooLong, anyTooLong}
 use Rattle.voice.specs.declared.record.Entry.{Entry}
 use Rattle.voice.specs.declared.record.Voice.{Voice}
+use Rattle.settings.specs.Dirty.{dirtyIn}
 use Rattle.config.specs.declared.parse.Configured.{Configured}
-use Rattle.config.specs.Dirty.{dirtyIn}
 use Rattle.config.specs.Laws.{EachKeeps, WholeKeeps}
 use Rattle.config.specs.Parsed.{inTurn, steps, settled, toAdd, refusal, parsed, configured}
 use Rattle.config.specs.Refusal.{refusalOf}
-use Rattle.config.specs.Steps.{pushed, pushedAll}
+use Rattle.config.specs.Queue.{pushed, pushedAll}
 use Rattle.config.proofs.Served.{room-for, none-long}
 
 module _ (P : Voice → Type 0) where

@@ -1,5 +1,4 @@
 pub mod Formed
-pub mod Four
 pub mod Kept
 pub mod Listed
 pub mod Pushing

@@ -36,11 +36,12 @@ use Rattle.voice.specs.declared.record.Entry.{Entry}
 use Rattle.voice.specs.declared.record.Format.{Format}
 use Rattle.voice.specs.declared.record.Voice.{Voice}
 use Rattle.voice.proofs.Range.{unsigned-below, below-unsigned, test-in-range, in-range-test, history-in-range, simple-in-32, biquad-in-32, zero-single, one-double, default-in-range}
-use Rattle.config.specs.Dirty.{flag, FORMAT, «MONO_OR_STEREO», «ADPCM_COEFFICIENTS», «PARTIAL_EMBEDDED_BUFFER», «PARTIAL_RESET», ENABLE, INTERPOLATION, «RATE_MULTIPLIER», «PLAY_POSITION», «FILTERS_ENABLED», «SIMPLE_FILTER», «BIQUAD_FILTER», GAIN, «SYNC_COUNT», RESET, «EMBEDDED_BUFFER»}
+use Rattle.settings.specs.Dirty.{flag, FORMAT, «MONO_OR_STEREO», «ADPCM_COEFFICIENTS», «PARTIAL_EMBEDDED_BUFFER», «PARTIAL_RESET», ENABLE, INTERPOLATION, «RATE_MULTIPLIER», «PLAY_POSITION», «FILTERS_ENABLED», «SIMPLE_FILTER», «BIQUAD_FILTER», GAIN, «SYNC_COUNT», RESET, «EMBEDDED_BUFFER»}
+use Rattle.settings.specs.Steps.{half, resetStep, partialResetStep, enableStep, syncStep, rateStep, interpolationStep, coefficientsStep, gainStep, enabledFilters, simpleFilters, biquadFilters, filtersStep, formatStep, stereoStep, lengthenStep}
 use Rattle.config.specs.Entries.{historyAt, positionIn, embedded, slotEntry}
 use Rattle.config.specs.Laws.{Keeps, KeepsRange}
 use Rattle.config.specs.Parsed.{settled, toAdd}
-use Rattle.config.specs.Steps.{half, resetStep, partialResetStep, enableStep, syncStep, rateStep, interpolationStep, coefficientsStep, gainStep, enabledFilters, simpleFilters, biquadFilters, filtersStep, formatStep, stereoStep, lengthenStep, pushed}
+use Rattle.config.specs.Queue.{pushed}
 use Rattle.config.proofs.Kept.{whole-keeps}
 use Rattle.config.proofs.Settled.{all-added}
 

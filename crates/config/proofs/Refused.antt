@@ -19,13 +19,14 @@ use Rattle.voice.specs.Set.{set-voice-filters}
 use Rattle.voice.specs.declared.record.Entry.{Entry}
 use Rattle.voice.specs.declared.record.Voice.{Voice}
 use Rattle.voice.proofs.Formed.{long-is, is-long}
+use Rattle.settings.specs.Dirty.{dirtyIn, flag, FORMAT, «MONO_OR_STEREO», «ADPCM_COEFFICIENTS», «PARTIAL_EMBEDDED_BUFFER», «PARTIAL_RESET», ENABLE, INTERPOLATION, «RATE_MULTIPLIER», «BUFFER_QUEUE», «FILTERS_ENABLED», «SIMPLE_FILTER», «BIQUAD_FILTER», GAIN, «SYNC_COUNT», RESET, «EMBEDDED_BUFFER»}
+use Rattle.settings.specs.Steps.{resetStep, partialResetStep, enableStep, syncStep, rateStep, interpolationStep, coefficientsStep, gainStep, enabledFilters, simpleFilters, biquadFilters, filtersStep, formatStep, stereoStep, lengthenStep}
 use Rattle.config.specs.declared.parse.Configured.{Configured}
-use Rattle.config.specs.Dirty.{dirtyIn, flag, FORMAT, «MONO_OR_STEREO», «ADPCM_COEFFICIENTS», «PARTIAL_EMBEDDED_BUFFER», «PARTIAL_RESET», ENABLE, INTERPOLATION, «RATE_MULTIPLIER», «BUFFER_QUEUE», «FILTERS_ENABLED», «SIMPLE_FILTER», «BIQUAD_FILTER», GAIN, «SYNC_COUNT», RESET, «EMBEDDED_BUFFER»}
 use Rattle.config.specs.Entries.{slotCount, embeddedEntries, slotsEntries, added}
 use Rattle.config.specs.Laws.{Keeps, RefusedUntouched, CleanUnchanged, Longer, Exactly, RefusedExactly, kept}
 use Rattle.config.specs.Parsed.{steps, settled, toAdd, refusal, parsed, configured, cleared, bytesAfter}
 use Rattle.config.specs.Refusal.{refusalOf}
-use Rattle.config.specs.Steps.{resetStep, partialResetStep, enableStep, syncStep, rateStep, interpolationStep, coefficientsStep, gainStep, enabledFilters, simpleFilters, biquadFilters, filtersStep, formatStep, stereoStep, lengthenStep, pushedAll}
+use Rattle.config.specs.Queue.{pushedAll}
 use Rattle.config.proofs.Kept.{in-turn}
 use Rattle.config.proofs.Settled.{settled-queued}
 

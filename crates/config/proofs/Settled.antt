@@ -12,11 +12,11 @@ use Rattle.voice.specs.declared.record.Entry.{Entry}
 use Rattle.voice.specs.declared.record.Format.{Format}
 use Rattle.voice.specs.declared.record.Format.the-variants.{Pcm16}
 use Rattle.voice.specs.declared.record.Voice.{Voice}
-use Rattle.config.specs.Dirty.{flag, FORMAT, «MONO_OR_STEREO», «ADPCM_COEFFICIENTS», «PARTIAL_EMBEDDED_BUFFER», «PARTIAL_RESET», ENABLE, INTERPOLATION, «RATE_MULTIPLIER», «BUFFER_QUEUE», GAIN, «SYNC_COUNT», RESET, «EMBEDDED_BUFFER»}
+use Rattle.settings.specs.Dirty.{flag, FORMAT, «MONO_OR_STEREO», «ADPCM_COEFFICIENTS», «PARTIAL_EMBEDDED_BUFFER», «PARTIAL_RESET», ENABLE, INTERPOLATION, «RATE_MULTIPLIER», «BUFFER_QUEUE», GAIN, «SYNC_COUNT», RESET, «EMBEDDED_BUFFER»}
+use Rattle.settings.specs.Steps.{formatIn, stereoIn, resetStep, partialResetStep, enableStep, syncStep, rateStep, interpolationStep, coefficientsStep, gainStep, filtersStep, formatStep, stereoStep, lengthenStep}
 use Rattle.config.specs.Entries.{slotCount, slotAdds, embedded, slotEntry, slotsEntries, added}
 use Rattle.config.specs.Laws.{Keeps, kept, formatAfter, stereoAfter, EntriesTake, Taken, EachTakes}
 use Rattle.config.specs.Parsed.{settled, toAdd}
-use Rattle.config.specs.Steps.{formatIn, stereoIn, resetStep, partialResetStep, enableStep, syncStep, rateStep, interpolationStep, coefficientsStep, gainStep, filtersStep, formatStep, stereoStep, lengthenStep}
 use Rattle.config.proofs.Kept.{in-turn}
 
 -- what a record has of the three

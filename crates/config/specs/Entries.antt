@@ -12,7 +12,7 @@ use Rattle.adpcm.specs.declared.History.{History}
 use Rattle.voice.specs.Blank.{blankHistory}
 use Rattle.voice.specs.declared.record.Entry.{Entry}
 use Rattle.voice.specs.declared.record.Format.{Format}
-use Rattle.config.specs.Dirty.{flag, «BUFFER_QUEUE», «PLAY_POSITION», «EMBEDDED_BUFFER»}
+use Rattle.settings.specs.Dirty.{flag, «BUFFER_QUEUE», «PLAY_POSITION», «EMBEDDED_BUFFER»}
 
 -- two signed halves at a place, or the blank where the mark beside them is off
 abbrev pub historyAt : Bool → List ℕ → ℕ → History

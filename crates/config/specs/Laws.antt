@@ -14,10 +14,11 @@ use Rattle.voice.specs.declared.record.Entry.{Entry}
 use Rattle.voice.specs.declared.record.Format.{Format}
 use Rattle.voice.specs.declared.record.Format.the-variants.{Pcm16, Adpcm}
 use Rattle.voice.specs.declared.record.Voice.{Voice}
-use Rattle.config.specs.Dirty.{dirtyIn, flag, FORMAT, «MONO_OR_STEREO», «PARTIAL_RESET», RESET, «EMBEDDED_BUFFER»}
+use Rattle.settings.specs.Dirty.{dirtyIn, flag, FORMAT, «MONO_OR_STEREO», «PARTIAL_RESET», RESET, «EMBEDDED_BUFFER»}
+use Rattle.settings.specs.Steps.{formatIn, stereoIn}
 use Rattle.config.specs.Entries.{added}
 use Rattle.config.specs.Parsed.{steps, toAdd, parsed, configured, bytesAfter}
-use Rattle.config.specs.Steps.{formatIn, stereoIn, pushed}
+use Rattle.config.specs.Queue.{pushed}
 
 -- ---- "that voice untouched": with a number that is not 0, the record and the configuration's bytes stay as they were
 

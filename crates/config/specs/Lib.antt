@@ -1,7 +1,6 @@
-pub mod Dirty
 pub mod Entries
 pub mod Inner
 pub mod Laws
 pub mod Parsed
+pub mod Queue
 pub mod Refusal
-pub mod Steps

@@ -8,12 +8,13 @@ use Rattle.lists.specs.Splice.{splice}
 use Rattle.memory.specs.Fields.{offsetOf, configuration}
 use Rattle.voice.specs.declared.record.Entry.{Entry}
 use Rattle.voice.specs.declared.record.Voice.{Voice}
+use Rattle.settings.specs.Dirty.{dirtyIn, flag, «BUFFER_QUEUE»}
+use Rattle.settings.specs.Steps.{resetStep, partialResetStep, enableStep, syncStep, rateStep, interpolationStep, coefficientsStep}
+use Rattle.settings.specs.Steps.{gainStep, filtersStep, formatStep, stereoStep, lengthenStep}
 use Rattle.config.specs.declared.parse.Configured.{Configured}
-use Rattle.config.specs.Dirty.{dirtyIn, flag, «BUFFER_QUEUE»}
 use Rattle.config.specs.Entries.{added}
 use Rattle.config.specs.Refusal.{refusalOf}
-use Rattle.config.specs.Steps.{resetStep, partialResetStep, enableStep, syncStep, rateStep, interpolationStep, coefficientsStep}
-use Rattle.config.specs.Steps.{gainStep, filtersStep, formatStep, stereoStep, lengthenStep, pushedAll}
+use Rattle.config.specs.Queue.{pushedAll}
 
 -- steps taken in turn, the first one first
 abbrev pub inTurn : List (Voice → Voice) → Voice → Voice

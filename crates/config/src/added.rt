@@ -1,9 +1,9 @@
 // The entries that a configuration adds, made once as a list.
-use crate::dirty;
-use crate::dirty::flag;
 use crate::entries::embedded;
 use crate::entries::slot_adds;
 use crate::entries::slot_entry;
+use settings::dirty;
+use settings::dirty::flag;
 use voice::blank::blank_entry;
 use voice::record::Entry;
 use voice::record::Format;

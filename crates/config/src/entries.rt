@@ -1,27 +1,19 @@
 // The entries that a configuration would add.
-use crate::dirty;
-use crate::dirty::flag;
 use adpcm::History;
 use memory::config;
 use memory::little::read_dsp32;
 use memory::little::read16;
 use memory::slot;
+use settings::dirty;
+use settings::dirty::flag;
+use settings::signed::signed_at;
 use voice::record::Entry;
 use voice::record::Format;
 ghost use mathlib.Core.Path.{_≡_};
 ghost use Prim.Native.Nat.{_+_, _^_, _≤_, _<_};
 ghost use lib.ListN.{length};
 ghost use Rattle.memory.specs.Fields.{slotAt};
-ghost use Rattle.numbers.specs.Wrap.{signed16};
-ghost use Rattle.memory.specs.Little.{at16};
 ghost use Rattle.config.specs.Entries.{historyAt, positionIn, embedded, slotLength, slotEntry, slotAdds};
-
-pub fn signed_at(bytes: &[u8], at: usize) -> i16
-    requires { ⌜ at + 2 ≤ length (now bytes) ⌝ }
-    ensures { λ r. ⌜ r ≡ signed16 (at16 (now (bytes .entry)) at) ⌝ }
-{
-    numbers::whole::to_signed16(read16(bytes, at))
-}
 
 // Two signed halves, or the blank where the mark beside them is off.
 fn history_at(mark: bool, bytes: &[u8], at: usize) -> History

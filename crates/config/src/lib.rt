@@ -1,12 +1,8 @@
 // Module 4, the configuration of a voice: what a title writes to it. A voice's 192 bytes and its 32 bytes of coefficients come in beside
-// its record. The steps settle the record, the entries that the flags add are made as one list, and the voice is refused by 20 or 21, with
-// all of it as it was, or the entries are queued and the dirty word cleared.
+// its record. The steps of `settings` settle the record, the entries that the flags add are made as one list, and the voice is refused by
+// 20 or 21, with all of it as it was, or the entries are queued and the dirty word cleared.
 pub mod added;
-pub mod dirty;
 pub mod entries;
-pub mod filtering;
-pub mod gains;
 pub mod parse;
 pub mod push;
 pub mod refusal;
-pub mod steps;

@@ -1,14 +1,14 @@
 // The configuration reader.
 use crate::added::to_add;
-use crate::dirty;
-use crate::dirty::flag;
-use crate::filtering::filters_step;
-use crate::gains::gain_step;
 use crate::push::push_entries;
 use crate::refusal::refusal;
-use crate::steps;
 use memory::config;
 use memory::little;
+use settings::dirty;
+use settings::dirty::flag;
+use settings::filtering::filters_step;
+use settings::gains::gain_step;
+use settings::steps;
 use voice::record::Voice;
 ghost use mathlib.Core.Path.{_≡_};
 ghost use Prim.Native.Nat.{_≤_};

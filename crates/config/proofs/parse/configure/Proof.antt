@@ -9,12 +9,12 @@ use Rattle.lists.proofs.Bools.{cond-yes, cond-no}
 use Rattle.voice.specs.Blank.{limit}
 use Rattle.voice.specs.declared.record.Entry.{Entry}
 use Rattle.voice.specs.declared.record.Voice.{Voice}
-use Rattle.config.specs.Dirty.{dirtyIn}
+use Rattle.settings.specs.Dirty.{dirtyIn}
 use Rattle.config.specs.Entries.{added}
 use Rattle.config.specs.Inner.{listedIn}
 use Rattle.config.specs.Parsed.{settled, toAdd, refusal, parsed, configured, cleared, bytesAfter}
 use Rattle.config.specs.Refusal.{refusalOf}
-use Rattle.config.specs.Steps.{pushedAll}
+use Rattle.config.specs.Queue.{pushedAll}
 use Rattle.config.proofs.Listed.{listed-long}
 use Rattle.config.proofs.Served.{room-for}
 use Rattle.config.proofs.Room.{settled-room}

@@ -3,7 +3,7 @@ use mathlib.Core.Path.{sym, ap, _∙_, subst}
 use Prim.Native.Nat.{_≤_}
 use native.Mathlib.Nat.{le-refl}
 use Rattle.voice.specs.declared.record.Voice.{Voice}
-use Rattle.config.specs.Steps.{stereoStep, lengthenStep}
+use Rattle.settings.specs.Steps.{stereoStep, lengthenStep}
 use Rattle.config.proofs.Room.{Room, format-room, stereo-room}
 use borrow.Author.Needs.{needs}
 use Rattle.config.proofs.parse.last_steps.Statement.{statement}

@@ -1,6 +1,6 @@
 -- `config::parse::play_steps` meets its contract: the steps' equations, one put into the next. Assumes nothing.
 use mathlib.Core.Path.{ap, _∙_}
-use Rattle.config.specs.Steps.{partialResetStep, enableStep, syncStep, rateStep, interpolationStep}
+use Rattle.settings.specs.Steps.{partialResetStep, enableStep, syncStep, rateStep, interpolationStep}
 use borrow.Author.Needs.{needs}
 use Rattle.config.proofs.parse.play_steps.Statement.{statement}
 use Rattle.config.proofs.parse.play_steps.Tie as tie

@@ -1,6 +1,6 @@
 -- `config::parse::sound_steps` meets its contract: the steps' equations, one put into the next. Assumes nothing.
 use mathlib.Core.Path.{ap, _∙_}
-use Rattle.config.specs.Steps.{gainStep, filtersStep}
+use Rattle.settings.specs.Steps.{gainStep, filtersStep}
 use borrow.Author.Needs.{needs}
 use Rattle.config.proofs.parse.sound_steps.Statement.{statement}
 use Rattle.config.proofs.parse.sound_steps.Tie as tie

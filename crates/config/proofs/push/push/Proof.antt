@@ -1,6 +1,6 @@
 -- `config::push::push` meets its contract: the stores are those of the definition. Assumes nothing.
 use mathlib.Core.Path.{refl}
-use Rattle.config.specs.Steps.{pushed}
+use Rattle.config.specs.Queue.{pushed}
 use borrow.Author.Needs.{needs}
 use Rattle.config.proofs.push.push.Statement.{statement}
 use Rattle.config.proofs.push.push.Tie as tie
