@@ -358,11 +358,11 @@ pub extern "C" fn yinzhor_filter(
 pub extern "C" fn yinzhor_record(lane: usize, bytes: &mut [u8]) -> u8
     requires { ⌜ length (now bytes) ≡ 2456 ⌝ }
 {
-    let v = record_bytes::record_of(bytes);
+    let v = record_reader::record_of(bytes);
     if voice::malformed::malformed(v, lane) {
         return 7;
     }
-    record_bytes::put_record(v, bytes);
+    record_writer::put_record(v, bytes);
     0
 }
 
@@ -376,12 +376,12 @@ pub extern "C" fn yinzhor_configure(
 ) -> u8
     requires { ⌜ (length (now bytes) ≡ 2456) × (length (now configuration) ≡ 192) × (length (now coefficients) ≡ 32) ⌝ }
 {
-    let v = record_bytes::record_of(bytes);
+    let v = record_reader::record_of(bytes);
     if voice::malformed::malformed(v, lane) {
         return 7;
     }
     let done = config::parse::configure(v, configuration, coefficients, lane);
     let after = done.voice;
-    record_bytes::put_record(after, bytes);
+    record_writer::put_record(after, bytes);
     done.number
 }

@@ -1,5 +1,5 @@
 // Replays a fixed list of the oracle's answers: frames through the filters of voices. Standard input holds jobs: how many pairs of samples
-// were produced, 32 bits, at most 160; a record as record_bytes has it. For each goes out the record after those pairs of its frame went
+// were produced, 32 bits, at most 160; a record as record_reader has it. For each goes out the record after those pairs of its frame went
 // through its filters. A greater count, or filters out of range, end the program. oracle/record wrote the list.
 use filters::state::Filters;
 ghost use mathlib.Core.Path.{_≡_};
@@ -30,7 +30,7 @@ fn filtered(samples: [i16; 320], count: usize, given: Filters) -> Passed
 fn filter(count: usize, bytes: &mut [u8]) -> bool
     requires { ⌜ (count ≤ 160) × (length (now bytes) ≡ 2456) ⌝ }
 {
-    let v = record_bytes::record_of(bytes);
+    let v = record_reader::record_of(bytes);
     let given = v.filters;
     if !filters::range::filters_in_range(given) {
         return false;
@@ -42,7 +42,7 @@ fn filter(count: usize, bytes: &mut [u8]) -> bool
     let mut w = v;
     w.filters = after;
     w.frame = frame;
-    record_bytes::put_record(w, bytes);
+    record_writer::put_record(w, bytes);
     true
 }
 

@@ -1,7 +1,7 @@
 // Serves the configuration reader for the oracle. Standard input holds jobs: the lane's length, 32 bits, at most 65,536; a record as
-// record_bytes has it; its configuration, 192 bytes; its coefficients, 32 bytes. For each go out the number and three zeros, the record and
-// the configuration after it. A malformed record is answered 7, all else as it was. stdin and stdout are a fixed list that oracle/record
-// wrote.
+// record_reader has it; its configuration, 192 bytes; its coefficients, 32 bytes. For each go out the number and three zeros, the record
+// and the configuration after it. A malformed record is answered 7, all else as it was. stdin and stdout are a fixed list that
+// oracle/record wrote.
 ghost use mathlib.Core.Path.{_≡_};
 ghost use Prim.Native.Nat.{_≤_};
 ghost use lib.ListN.{length};
@@ -19,14 +19,14 @@ fn left(done: config::parse::Configured) -> voice::record::Voice {
 fn serve(lane: usize, bytes: &mut [u8], configuration: &mut [u8], coefficients: &[u8]) -> u8
     requires { ⌜ (lane ≤ 65536) × (length (now bytes) ≡ 2456) × (length (now configuration) ≡ 192) × (length (now coefficients) ≡ 32) ⌝ }
 {
-    let v = record_bytes::record_of(bytes);
+    let v = record_reader::record_of(bytes);
     if voice::malformed::malformed(v, lane) {
         return 7;
     }
     let done = config::parse::configure(v, configuration, coefficients, lane);
     let number = done.number;
     let after = left(done);
-    record_bytes::put_record(after, bytes);
+    record_writer::put_record(after, bytes);
     number
 }
 

@@ -11,7 +11,7 @@ use zakuro_core::services::dsp_voices::{
 
 use crate::{EXTREMES, Random, floats};
 
-/// bytes of a record; the crate record_bytes has their form.
+/// bytes of a record; the crate record_reader has their form.
 pub const RECORD: usize = 2456;
 pub const CONFIGURATION: usize = 192;
 pub const COEFFICIENTS: usize = 32;
