@@ -20,11 +20,11 @@ ghost use mathlib.Core.Path.{_≡_};
 ghost use lib.ListN.{length};
 use voice::record::Voice;
 
-pub mod entries;
-pub mod fields;
-pub mod filtering;
-pub mod parts;
-pub mod sound;
+mod entries;
+mod fields;
+mod filtering;
+mod parts;
+mod sound;
 
 // The record that the bytes hold.
 pub fn record_of(bytes: &[u8]) -> Voice

@@ -5,7 +5,6 @@ ghost use lib.ListN.{length};
 use crate::parts;
 use numbers::whole::to_bits16;
 use voice::record::Entry;
-use voice::record::Voice;
 
 fn entry_words(e: Entry) -> [u32; 6] {
     let adpcm = e.adpcm;
@@ -31,12 +30,9 @@ pub fn put_entry(e: Entry, bytes: &mut [u8], at: usize)
     parts::put_words(&words, bytes, at);
 }
 
-pub fn put_entries(v: Voice, bytes: &mut [u8])
+pub fn put_queue(queue: [Entry; 64], bytes: &mut [u8])
     requires { ⌜ length (now bytes) ≡ 2456 ⌝ }
 {
-    let playing = v.playing;
-    put_entry(playing, bytes, 256);
-    let queue = v.queue;
     let mut i: usize = 0;
     while i < 64 {
         let e = queue[i];

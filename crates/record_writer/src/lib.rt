@@ -3,11 +3,11 @@ ghost use mathlib.Core.Path.{_≡_};
 ghost use lib.ListN.{length};
 use voice::record::Voice;
 
-pub mod entries;
-pub mod fields;
-pub mod filtering;
-pub mod parts;
-pub mod sound;
+mod entries;
+mod fields;
+mod filtering;
+mod parts;
+mod sound;
 
 // Puts a record over the bytes.
 pub fn put_record(v: Voice, bytes: &mut [u8])
@@ -17,5 +17,8 @@ pub fn put_record(v: Voice, bytes: &mut [u8])
     let filters = v.filters;
     filtering::put_filters(filters, bytes);
     sound::put_sound(v, bytes);
-    entries::put_entries(v, bytes);
+    let playing = v.playing;
+    entries::put_entry(playing, bytes, 256);
+    let queue = v.queue;
+    entries::put_queue(queue, bytes);
 }

@@ -1,19 +1,16 @@
--- `record_writer::entries::put_entries` is safe: the bytes stay as many. Assumes nothing.
+-- `record_writer::entries::put_queue` is safe: the bytes stay as many. Assumes nothing.
 use mathlib.Core.Path.{_≡_, refl}
 use Prim.Native.Nat.{_-_}
 use lib.ListN.{length}
 use borrow.Author.Needs.{needs}
-use Rattle.record_writer.proofs.entries.put_entries.Statement.{statement}
-use Rattle.record_writer.proofs.entries.put_entries.Tie as tie
+use Rattle.record_writer.proofs.entries.put_queue.Statement.{statement}
+use Rattle.record_writer.proofs.entries.put_queue.Tie as tie
 
 abbrev Inv-loop : tie.InvT-loop
 Inv-loop bytes₀ queue i₀ bytes i = length bytes ≡ length bytes₀
 
 abbrev μ-loop : tie.MeasureT-loop
 μ-loop bytes₀ queue i₀ bytes i = 64 - i
-
-put-entry-requires : tie.Need-put-entry-requires Inv-loop μ-loop
-put-entry-requires c κs = search needs
 
 loop-holds : tie.Need-loop-holds Inv-loop μ-loop
 loop-holds c = refl
@@ -30,8 +27,8 @@ mul-put-entry c = search needs
 add-put-entry : tie.Need-add-put-entry Inv-loop μ-loop
 add-put-entry c = search needs
 
-put-entry-requires-2 : tie.Need-put-entry-requires-2 Inv-loop μ-loop
-put-entry-requires-2 c κs = search needs
+put-entry-requires : tie.Need-put-entry-requires Inv-loop μ-loop
+put-entry-requires c κs = search needs
 
 add-i : tie.Need-add-i Inv-loop μ-loop
 add-i c = search needs
@@ -48,19 +45,18 @@ same-length c = search needs
 returns : tie.Need-returns Inv-loop μ-loop
 returns c = tt
 
-pub put-entries-spec : {M : Type 1} → statement M
-put-entries-spec =
+pub put-queue-spec : {M : Type 1} → statement M
+put-queue-spec =
     tie.close
     (tie.spec
     Inv-loop
     μ-loop
-    put-entry-requires
     loop-holds
     mul-e
     array-copy-out-e
     mul-put-entry
     add-put-entry
-    put-entry-requires-2
+    put-entry-requires
     add-i
     loop-less
     loop-again
