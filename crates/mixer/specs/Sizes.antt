@@ -1,5 +1,5 @@
--- How many bytes the mixer's places take: "mixer configuration 44, final samples 640, intermediate samples 5,120". Assumes nothing: these are
--- definitions.
+-- How many bytes the mixer's places take: "mixer configuration 44, final samples 640, intermediate samples 5,120". Assumes nothing: these
+-- are definitions.
 use Prim.Native.Nat.{ℕ, _*_}
 use Rattle.numbers.specs.Sizes.{FRAME, MIX}
 

@@ -1,9 +1,9 @@
--- `exports::yinzhor_configure` is safe: what a configuration asks of the record is the test before it. Assumes nothing.
+-- `exports_voice::yinzhor_configure` is safe: what a configuration asks of the record is the test before it. Assumes nothing.
 use mathlib.Core.Path.{sym, _∙_}
 use Rattle.voice.proofs.Formed.{not-malformed-formed}
 use borrow.Author.Needs.{needs}
-use Rattle.exports.proofs.yinzhor_configure.Statement.{statement}
-use Rattle.exports.proofs.yinzhor_configure.Tie as tie
+use Rattle.exports_voice.proofs.yinzhor_configure.Statement.{statement}
+use Rattle.exports_voice.proofs.yinzhor_configure.Tie as tie
 
 record-of-requires : tie.Need-record-of-requires
 record-of-requires c κs = search needs
