@@ -52,6 +52,16 @@ fn decode() {
     assert_eq!(decode([0x0F, 0x80, 0, 0, 0, 0, 0, 0], 1, 0, [0; 2]), (vec![-32768], [-32768, 0]));
 }
 
+/// bit 7 of a header is ignored: the predictor is pair 0, not a pair 8.
+#[test]
+fn decode_header_bit_7() {
+    let mut coefficients = [0; 16];
+    coefficients[0] = 2048;
+    let (mut history, mut samples) = ([100, 0], Vec::new());
+    probe_decode(&[0x80, 0, 0, 0, 0, 0, 0, 0], 1, &coefficients, &mut history, &mut samples);
+    assert_eq!((samples, history), (vec![100], [100, 100]));
+}
+
 /// the sum wraps, which only a build without overflow checks lets it.
 #[test]
 #[cfg(not(debug_assertions))]
