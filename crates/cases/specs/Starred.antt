@@ -10,8 +10,8 @@ use lib.Ieee.{Float, fin}
 use lib.IntN.{ℤ, pos, negsuc}
 use Rattle.numbers.specs.Casts.{single}
 use Rattle.mixing.specs.Interpolate.{interpolate}
-use Rattle.memory.specs.Choice.{chosen}
-use Rattle.memory.specs.Little.{atDsp32, dsp32Bytes}
+use Rattle.region.specs.Choice.{chosen}
+use Rattle.little.specs.Little.{atDsp32, dsp32Bytes}
 use Rattle.adpcm.specs.declared.History.{History}
 use Rattle.adpcm.specs.Code.{decodedSamples, decodedHistory}
 use Rattle.adpcm.specs.Adpcm.{sampleOf}

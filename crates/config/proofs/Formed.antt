@@ -14,8 +14,8 @@ use Rattle.lists.proofs.Bools.{and-yes, and-both, cond-either}
 use Rattle.numbers.specs.Bits.{rate}
 use Rattle.numbers.specs.Literals.{+1}
 use Rattle.numbers.specs.Tests.{is-rate}
-use Rattle.memory.specs.Fields.{offsetOf, configuration}
-use Rattle.memory.specs.Little.{at16}
+use Rattle.fields.specs.Fields.{offsetOf, configuration}
+use Rattle.little.specs.Little.{at16}
 use Rattle.filters.specs.Defaults.{defaultSimple, defaultBiquad}
 use Rattle.filters.specs.Range.{inRange, allInRange, simpleInRange, biquadInRange, filtersInRange}
 use Rattle.filters.specs.declared.state.BiquadFilter.{BiquadFilter}

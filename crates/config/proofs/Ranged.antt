@@ -22,8 +22,8 @@ use Rattle.numbers.specs.Bits.{gain, rate}
 use Rattle.numbers.specs.Literals.{+0, +1}
 use Rattle.numbers.specs.Tests.{is-rate}
 use Rattle.numbers.specs.Wrap.{signed16}
-use Rattle.memory.specs.Fields.{offsetOf, configuration, slot, slotAt, gainAt}
-use Rattle.memory.specs.Little.{at16, at32, atDsp32}
+use Rattle.fields.specs.Fields.{offsetOf, configuration, slot, slotAt, gainAt}
+use Rattle.little.specs.Little.{at16, at32, atDsp32}
 use Rattle.adpcm.specs.declared.History.{History}
 use Rattle.filters.specs.Defaults.{defaultSimple, defaultBiquad}
 use Rattle.filters.specs.declared.state.BiquadFilter.{BiquadFilter}

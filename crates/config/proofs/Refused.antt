@@ -11,7 +11,7 @@ use lib.ListN.{length}
 use borrow.Author.Tests.{ltb-true, ltb-false, le-ltb, eqb-true}
 use Rattle.lists.proofs.Bools.{or-no, cond-yes, cond-no}
 use Rattle.lists.proofs.Some.{some-one, one-some}
-use Rattle.memory.specs.Flags.{flagged}
+use Rattle.fields.specs.Flags.{flagged}
 use Rattle.filters.specs.declared.state.Filters.{Filters}
 use Rattle.voice.specs.Blank.{limit}
 use Rattle.voice.specs.Long.{tooLong, anyTooLong}

@@ -8,8 +8,8 @@ use lib.IntN.{ℤ, pos}
 use lib.ListN.{length, replicate, length-set}
 use Rattle.lists.proofs.Bools.{cond-either}
 use Rattle.lists.proofs.Splice.{length-splice}
-use Rattle.memory.specs.Fields.{offsetOf, configuration}
-use Rattle.memory.specs.Little.{at16}
+use Rattle.fields.specs.Fields.{offsetOf, configuration}
+use Rattle.little.specs.Little.{at16}
 use Rattle.filters.specs.Defaults.{defaultSimple, defaultBiquad}
 use Rattle.filters.specs.declared.state.BiquadFilter.{BiquadFilter}
 use Rattle.filters.specs.declared.state.Filters.{Filters}

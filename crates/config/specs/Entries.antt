@@ -6,8 +6,8 @@ use mathlib.Core.List.{List, [], _∷_, _++_}
 use lib.Dec.{eqb}
 use lib.ListN.{getD}
 use Rattle.numbers.specs.Wrap.{signed16}
-use Rattle.memory.specs.Little.{at16, atDsp32}
-use Rattle.memory.specs.Fields.{offsetOf, configuration, slot, slotAt}
+use Rattle.little.specs.Little.{at16, atDsp32}
+use Rattle.fields.specs.Fields.{offsetOf, configuration, slot, slotAt}
 use Rattle.adpcm.specs.declared.History.{History}
 use Rattle.voice.specs.Blank.{blankHistory}
 use Rattle.voice.specs.declared.record.Entry.{Entry}

@@ -5,7 +5,7 @@ use mathlib.Core.List.{List, [], _∷_, _++_}
 use lib.Dec.{eqb}
 use lib.ListN.{replicate}
 use Rattle.lists.specs.Splice.{splice}
-use Rattle.memory.specs.Fields.{offsetOf, configuration}
+use Rattle.fields.specs.Fields.{offsetOf, configuration}
 use Rattle.voice.specs.declared.record.Entry.{Entry}
 use Rattle.voice.specs.declared.record.Voice.{Voice}
 use Rattle.settings.specs.Dirty.{dirtyIn, flag, «BUFFER_QUEUE»}

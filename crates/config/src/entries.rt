@@ -1,18 +1,18 @@
 // The entries that a configuration would add.
 use adpcm::History;
-use memory::config;
-use memory::little::read_dsp32;
-use memory::little::read16;
-use memory::slot;
+use fields::config;
+use fields::slot;
+use little::read_dsp32;
+use little::read16;
+use little::signed_at;
 use settings::dirty;
 use settings::dirty::flag;
-use settings::signed::signed_at;
 use voice::record::Entry;
 use voice::record::Format;
 ghost use mathlib.Core.Path.{_≡_};
 ghost use Prim.Native.Nat.{_+_, _^_, _≤_, _<_};
 ghost use lib.ListN.{length};
-ghost use Rattle.memory.specs.Fields.{slotAt};
+ghost use Rattle.fields.specs.Fields.{slotAt};
 ghost use Rattle.config.specs.Entries.{historyAt, positionIn, embedded, slotLength, slotEntry, slotAdds};
 
 // Two signed halves, or the blank where the mark beside them is off.

@@ -2,8 +2,7 @@
 use crate::added::to_add;
 use crate::push::push_entries;
 use crate::refusal::refusal;
-use memory::config;
-use memory::little;
+use fields::config;
 use settings::dirty;
 use settings::dirty::flag;
 use settings::filtering::filters_step;

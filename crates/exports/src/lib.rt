@@ -8,28 +8,28 @@ use adpcm::History;
 use filters::state::BiquadFilter;
 use filters::state::Filters;
 use filters::state::SimpleFilter;
+use layout::Layout;
 use listing::sizes::OUTPUT_ROOM;
-use memory::layout::Layout;
 use mixer::state::Mixer;
 use mixer::state::Output;
 
 #[no_mangle]
 pub extern "C" fn yinzhor_current_region(first: u16, second: u16) -> u32 {
-    memory::region::current_region(first, second)
+    region::current_region(first, second)
 }
 
 #[no_mangle]
 pub extern "C" fn yinzhor_read_dsp32(bytes: &[u8], at: usize) -> u32
     requires { ⌜ at + 4 ≤ length (now bytes) ⌝ }
 {
-    memory::little::read_dsp32(bytes, at)
+    little::read_dsp32(bytes, at)
 }
 
 #[no_mangle]
 pub extern "C" fn yinzhor_write_dsp32(bytes: &mut [u8], at: usize, value: u32)
     requires { ⌜ at + 4 ≤ length (now bytes) ⌝ }
 {
-    memory::little::write_dsp32(bytes, at, value);
+    little::write_dsp32(bytes, at, value);
 }
 
 fn layout_of(offsets: &[u32]) -> Layout
@@ -50,17 +50,17 @@ fn layout_of(offsets: &[u32]) -> Layout
 pub extern "C" fn yinzhor_layout_number(first: usize, second: usize, offsets: &[u32]) -> u8
     requires { ⌜ length (now offsets) ≡ 7 ⌝ }
 {
-    memory::layout::layout_number(first, second, layout_of(offsets))
+    layout::layout_number(first, second, layout_of(offsets))
 }
 
 #[no_mangle]
 pub extern "C" fn yinzhor_window_number(base: u32, length: usize) -> u8 {
-    memory::window::window_number(base, length)
+    window::window_number(base, length)
 }
 
 #[no_mangle]
 pub extern "C" fn yinzhor_present(window: &[u8], base: u32, address: u32, count: u32) -> bool {
-    memory::window::present(window, base, address, count)
+    window::present(window, base, address, count)
 }
 
 // Copies the part that the look-up hands back to the front of `out`, and answers how long it is.
@@ -72,12 +72,12 @@ pub extern "C" fn yinzhor_physical(
     count: u32,
     out: &mut [u8],
 ) -> usize {
-    let part = memory::window::physical(window, base, address, count);
+    let part = window::physical(window, base, address, count);
     let n = part.len();
     if n > out.len() {
         return n;
     }
-    memory::little::copy(part, &mut out[..n]);
+    little::copy(part, &mut out[..n]);
     n
 }
 
@@ -219,7 +219,7 @@ fn put_switches(aux: [bool; 2], mono: u8, switches: &mut [u8])
     requires { ⌜ length (now switches) ≡ 3 ⌝ }
 {
     let bytes = [aux[0] as u8, aux[1] as u8, mono];
-    memory::little::copy(&bytes, switches);
+    little::copy(&bytes, switches);
 }
 
 fn put_frame(values: [i16; 320], frame: &mut [i16])

@@ -6,7 +6,7 @@ use lib.Dec.{eqb}
 use lib.IntN.{ℤ}
 use lib.ListN.{length, take, drop}
 use Rattle.numbers.specs.Wrap.{signed16}
-use Rattle.memory.specs.Little.{at16}
+use Rattle.little.specs.Little.{at16}
 use Rattle.adpcm.specs.Code.{decodedSamples, decodedHistory}
 use Rattle.adpcm.specs.Adpcm.{sampleOf}
 use Rattle.adpcm.specs.declared.History.{History}

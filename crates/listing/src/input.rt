@@ -3,18 +3,11 @@ ghost use mathlib.Core.Path.{_≡_};
 ghost use Prim.Native.Nat.{_+_, _*_, _≤_, _<_};
 ghost use lib.ListN.{length};
 ghost use Rattle.numbers.specs.Wrap.{signed16};
-ghost use Rattle.memory.specs.Little.{at16};
+ghost use Rattle.little.specs.Little.{at16};
 ghost use Rattle.listing.specs.Sizes.{header};
 ghost use Rattle.listing.specs.Listing.{coefficientsIn, historyIn, countIn};
 use adpcm::History;
-
-// The signed number at a place.
-fn signed_at(bytes: &[u8], at: usize) -> i16
-    requires { ⌜ at + 2 ≤ length (now bytes) ⌝ }
-    ensures { λ r. ⌜ r ≡ signed16 (at16 (now (bytes .entry)) at) ⌝ }
-{
-    numbers::whole::to_signed16(memory::little::read16(bytes, at))
-}
+use little::signed_at;
 
 // The 16 coefficients.
 pub fn coefficients(bytes: &[u8]) -> [i16; 16]
@@ -53,5 +46,5 @@ pub fn count(bytes: &[u8]) -> usize
     requires { ⌜ header ≤ length (now bytes) ⌝ }
     ensures { λ r. ⌜ (r ≡ countIn (now (bytes .entry))) × (r < 65536) ⌝ }
 {
-    wide(memory::little::read16(bytes, 36))
+    wide(little::read16(bytes, 36))
 }

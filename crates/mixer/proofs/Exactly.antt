@@ -9,10 +9,10 @@ use lib.Dec.{eqb, ltb, lit≤, lit<}
 use lib.IntN.{ℤ}
 use lib.ListN.{length}
 use borrow.Author.Tests.{eqb-true, eqb-false, ltb-true, ltb-false}
-use Rattle.memory.specs.Exactly.{Exactly}
-use Rattle.memory.specs.Places.{regionMost, placesOf, inside, apart, layoutNumber}
-use Rattle.memory.specs.declared.layout.Layout.{Layout}
-use Rattle.memory.proofs.Places as places
+use Rattle.layout.specs.Exactly.{Exactly}
+use Rattle.layout.specs.Places.{regionMost, placesOf, inside, apart, layoutNumber}
+use Rattle.layout.specs.declared.Layout.{Layout}
+use Rattle.layout.proofs.Places as places
 use Rattle.mixer.specs.declared.state.Mixer.{Mixer}
 use Rattle.numbers.specs.Sizes.{MIXES}
 use Rattle.mixer.specs.Tick.{Outcome, numberOf, accepted, refused, ticked}

@@ -8,9 +8,9 @@ use lib.IntN.{ℤ}
 use lib.ListN.{length}
 use borrow.Author.Tests.{lt-ltb, le-ltb, eq-eqb, ne-eqb}
 use Rattle.lists.proofs.Bools.{cond-yes, cond-no, not-yes, not-no}
-use Rattle.memory.specs.Places.{layoutNumber}
-use Rattle.memory.specs.declared.layout.Layout.{Layout}
-use Rattle.memory.proofs.Places as places
+use Rattle.layout.specs.Places.{layoutNumber}
+use Rattle.layout.specs.declared.Layout.{Layout}
+use Rattle.layout.proofs.Places as places
 use Rattle.mixer.specs.declared.state.Mixer.{Mixer}
 use Rattle.numbers.specs.Sizes.{MIXES}
 use Rattle.mixer.specs.Tick.{Roomy, numberOf, Outcome, accepted, refused, ticked}

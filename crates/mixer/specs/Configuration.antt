@@ -5,9 +5,9 @@ use mathlib.Core.List.{List, [], _∷_}
 use lib.Dec.{eqb}
 use lib.Ieee.{Float}
 use Rattle.numbers.specs.Bits.{gain}
-use Rattle.memory.specs.Little.{at16, at32}
-use Rattle.memory.specs.Flags.{flagged}
-use Rattle.memory.specs.Fields.{offsetOf, mixerConfiguration}
+use Rattle.little.specs.Little.{at16, at32}
+use Rattle.fields.specs.Flags.{flagged}
+use Rattle.fields.specs.Fields.{offsetOf, mixerConfiguration}
 use Rattle.mixer.specs.State.{volumeOf, auxOn}
 use Rattle.mixer.specs.declared.state.Mixer.{Mixer}
 use Rattle.mixer.specs.declared.state.Output.{Output}

@@ -6,8 +6,8 @@ use mathlib.Core.Logic.{_↔_, _≢_}
 use mathlib.Core.List.{List}
 use lib.IntN.{ℤ}
 use lib.ListN.{length}
-use Rattle.memory.specs.Exactly.{LengthsWrong, EndsPast, ShareByte}
-use Rattle.memory.specs.declared.layout.Layout.{Layout}
+use Rattle.layout.specs.Exactly.{LengthsWrong, EndsPast, ShareByte}
+use Rattle.layout.specs.declared.Layout.{Layout}
 use Rattle.numbers.specs.Sizes.{MIXES}
 use Rattle.mixer.specs.Tick.{Outcome, silence, ticked}
 use Rattle.mixer.specs.declared.state.Mixer.{Mixer}

@@ -7,7 +7,7 @@ use lib.ListN.{getD}
 use Rattle.lists.specs.Splice.{part}
 use Rattle.lists.specs.Tabulate.{tabulate}
 use Rattle.numbers.specs.Wrap.{modZ, signed32}
-use Rattle.memory.specs.Little.{at32, bytes16, bytes32}
+use Rattle.little.specs.Little.{at32, bytes16, bytes32}
 use Rattle.numbers.specs.Sizes.{«FRAME_SAMPLES», MIX}
 
 -- mix k of the three

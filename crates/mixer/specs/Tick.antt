@@ -6,9 +6,9 @@ use lib.Dec.{eqb, ltb}
 use lib.IntN.{ℤ, pos}
 use lib.ListN.{length, replicate}
 use Rattle.lists.specs.Splice.{part, splice}
-use Rattle.memory.specs.Little.{at32}
-use Rattle.memory.specs.Places.{layoutNumber}
-use Rattle.memory.specs.declared.layout.Layout.{Layout}
+use Rattle.little.specs.Little.{at32}
+use Rattle.layout.specs.Places.{layoutNumber}
+use Rattle.layout.specs.declared.Layout.{Layout}
 use Rattle.numbers.specs.Sizes.{FRAME, MIXES}
 use Rattle.mixer.specs.Sizes.{configurationBytes, finalBytes, auxBytes, intermediateBytes}
 use Rattle.mixer.specs.State.{auxOn}

@@ -4,17 +4,17 @@ ghost use mathlib.Core.Bool.{not, cond};
 ghost use Prim.Native.Nat.{_+_, _≤_, _<_};
 ghost use lib.Dec.{eqb};
 ghost use lib.ListN.{length};
-ghost use Rattle.memory.specs.Little.{at16, at32};
-ghost use Rattle.memory.specs.Flags.{flagged};
+ghost use Rattle.little.specs.Little.{at16, at32};
+ghost use Rattle.fields.specs.Flags.{flagged};
 ghost use Rattle.numbers.specs.Bits.{gain};
 ghost use Rattle.mixer.specs.Sizes.{configurationBytes};
 ghost use Rattle.mixer.specs.Configuration.{outputOf, configured};
 use crate::state::Mixer;
 use crate::state::Output;
-use memory::flags::flagged;
-use memory::little::read16;
-use memory::little::read32;
-use memory::mixer_config as config;
+use fields::flags::flagged;
+use fields::mixer_config as config;
+use little::read16;
+use little::read32;
 
 // Bits of the dirty word. Of the aux buses' bits the first is given, the second is twice that.
 const AUX_BUS_ENABLE: u32 = 0x100;

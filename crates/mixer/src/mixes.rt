@@ -9,7 +9,6 @@ ghost use Rattle.mixer.specs.Sizes.{finalBytes, auxBytes};
 ghost use Rattle.mixer.specs.Mixes.{wordsIn, wordBytes, sampleBytes};
 use crate::sizes::AUX_BYTES;
 use crate::sizes::FINAL_BYTES;
-use memory::little;
 
 // Reads what a title made of a mix.
 fn read_mix(bytes: &[u8], mix: &mut [i32])

@@ -4,9 +4,8 @@ use crate::downmix::downmix;
 use crate::mixes;
 use crate::sizes::AUX_BYTES;
 use crate::state::Mixer;
-use memory::layout::Layout;
-use memory::little;
-use memory::mixer_config::CONFIG_SIZE;
+use fields::mixer_config::CONFIG_SIZE;
+use layout::Layout;
 use numbers::sizes::FRAME;
 use numbers::sizes::MIX;
 use numbers::sizes::MIXES;
@@ -125,7 +124,7 @@ pub fn tick(
     ensures left0 { λ _. ⌜ now (first .exit) ≡ ticked l m (now (given .entry)) which (now (first .entry)) (now (second .entry)) .first ⌝ }
     ensures left1 { λ _. ⌜ now (second .exit) ≡ ticked l m (now (given .entry)) which (now (first .entry)) (now (second .entry)) .second ⌝ }
 {
-    let number = memory::layout::layout_number(first.len(), second.len(), l);
+    let number = layout::layout_number(first.len(), second.len(), l);
     if number != 0 {
         return refuse(number, m);
     }

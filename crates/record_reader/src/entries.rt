@@ -2,9 +2,8 @@
 ghost use mathlib.Core.Path.{_≡_};
 ghost use Prim.Native.Nat.{_+_, _≤_};
 ghost use lib.ListN.{length};
-use crate::fields::format_of;
 use crate::parts;
-use memory::little;
+use crate::scalars::format_of;
 use voice::record::Entry;
 use voice::record::Voice;
 

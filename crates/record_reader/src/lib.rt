@@ -21,9 +21,9 @@ ghost use lib.ListN.{length};
 use voice::record::Voice;
 
 mod entries;
-mod fields;
 mod filtering;
 mod parts;
+mod scalars;
 mod sound;
 
 // The record that the bytes hold.
@@ -31,8 +31,8 @@ pub fn record_of(bytes: &[u8]) -> Voice
     requires { ⌜ length (now bytes) ≡ 2456 ⌝ }
 {
     let v = voice::blank::default_voice();
-    let v = fields::with_head(v, bytes);
-    let v = fields::with_state(v, bytes);
+    let v = scalars::with_head(v, bytes);
+    let v = scalars::with_state(v, bytes);
     let v = sound::with_sound(v, bytes);
     entries::with_entries(v, bytes)
 }

@@ -2,7 +2,6 @@
 ghost use Prim.Native.Nat.{_+_, _<_, _≤_};
 ghost use lib.ListN.{length};
 use adpcm::History;
-use memory::little;
 
 pub fn on(bytes: &[u8], at: usize) -> bool
     requires { ⌜ at < length (now bytes) ⌝ }

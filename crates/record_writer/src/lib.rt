@@ -4,16 +4,16 @@ ghost use lib.ListN.{length};
 use voice::record::Voice;
 
 mod entries;
-mod fields;
 mod filtering;
 mod parts;
+mod scalars;
 mod sound;
 
 // Puts a record over the bytes.
 pub fn put_record(v: Voice, bytes: &mut [u8])
     requires { ⌜ length (now bytes) ≡ 2456 ⌝ }
 {
-    fields::put_fields(v, bytes);
+    scalars::put_fields(v, bytes);
     let filters = v.filters;
     filtering::put_filters(filters, bytes);
     sound::put_sound(v, bytes);

@@ -1,7 +1,6 @@
 // The words of four bytes that a record is put in, and their parts.
 ghost use Prim.Native.Nat.{_+_, _*_, _≤_};
 ghost use lib.ListN.{length};
-use memory::little;
 use voice::record::Format;
 use voice::record::Interpolation;
 

@@ -3,7 +3,6 @@ ghost use mathlib.Core.Path.{_≡_};
 ghost use Prim.Native.Nat.{_+_, _≤_};
 ghost use lib.ListN.{length};
 use crate::parts;
-use memory::little;
 use numbers::whole::to_bits16;
 use voice::record::Voice;
 

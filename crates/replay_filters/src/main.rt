@@ -53,7 +53,7 @@ fn answer() -> bool {
     if io::read_full(0, &mut head) != 4 || io::read_full(0, &mut record) != 2456 {
         return false;
     }
-    let count = memory::little::read32(&head, 0) as usize;
+    let count = little::read32(&head, 0) as usize;
     if count > 160 {
         return false;
     }

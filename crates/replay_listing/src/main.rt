@@ -5,7 +5,6 @@
 ghost use Prim.Native.Nat.{_≤_, _<_};
 ghost use Rattle.listing.specs.Sizes.{inputRoom};
 use listing::sizes;
-use memory::little;
 
 const RECORD: usize = 44;
 

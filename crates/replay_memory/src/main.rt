@@ -2,7 +2,6 @@
 // 1: a dsp32 to read, 2: a number to write as one), 3 zeros and 8 bytes; 4 bytes of answer go out for each. oracle/record wrote the list.
 ghost use mathlib.Core.Path.{_≡_};
 ghost use lib.ListN.{length};
-use memory::little;
 
 const RECORD: usize = 12;
 
@@ -13,7 +12,7 @@ fn answer(bytes: &[u8]) -> [u8; 4]
     if bytes[0] == 0 {
         let first = little::read16(bytes, 4);
         let second = little::read16(bytes, 6);
-        little::write32(&mut out, 0, memory::region::current_region(first, second));
+        little::write32(&mut out, 0, region::current_region(first, second));
     } else if bytes[0] == 1 {
         little::write32(&mut out, 0, little::read_dsp32(bytes, 4));
     } else {

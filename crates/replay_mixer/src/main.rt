@@ -3,8 +3,7 @@
 // list.
 ghost use mathlib.Core.Path.{_≡_};
 ghost use lib.ListN.{length};
-use memory::layout::Layout;
-use memory::little;
+use layout::Layout;
 use mixer::state::Mixer;
 use mixer::state::Output;
 use mixer::tick::Mixed;

@@ -1,6 +1,5 @@
 // Replays a fixed list of the oracle's answers: casts, gains, rates and what mixing does with them. Standard input holds records of four
 // words, a kind and three operands, whose forms oracle/recorder gives; a word of answer goes out for each. oracle/record wrote the list.
-use memory::little;
 use numbers::casts;
 use numbers::casts::double_of_single;
 use numbers::whole;

@@ -1,7 +1,6 @@
 // Test only: what the programs that replay the oracle's answers share.
 ghost use Prim.Native.Nat.{_*_, _≤_};
 ghost use lib.ListN.{length};
-use memory::little;
 
 // The float of 32 bits, 0 where that is not a number.
 pub fn single(bits: u32) -> f32 {

@@ -42,7 +42,7 @@ fn answer() -> bool {
     if io::read_full(0, &mut configuration) != 192 || io::read_full(0, &mut coefficients) != 32 {
         return false;
     }
-    let lane = memory::little::read32(&head, 0) as usize;
+    let lane = little::read32(&head, 0) as usize;
     if lane > 65536 {
         return false;
     }

@@ -2,9 +2,9 @@
 use Prim.Native.Nat.{ℕ}
 use mathlib.Core.Bool.{Bool}
 use mathlib.Core.List.{List}
-use Rattle.memory.specs.Fields.{offsetOf, configuration}
-use Rattle.memory.specs.Flags.{flagged}
-use Rattle.memory.specs.Little.{at32}
+use Rattle.fields.specs.Fields.{offsetOf, configuration}
+use Rattle.fields.specs.Flags.{flagged}
+use Rattle.little.specs.Little.{at32}
 
 abbrev pub dirtyIn : List ℕ → ℕ
 dirtyIn bytes = at32 bytes (offsetOf configuration "DIRTY")

@@ -12,8 +12,8 @@ use Rattle.lists.specs.Splice.{part, splice}
 use Rattle.lists.specs.Tabulate.{tabulate}
 use Rattle.numbers.specs.Wrap.{signed16}
 use Rattle.numbers.specs.Bits.{gain, rate}
-use Rattle.memory.specs.Little.{at16, at32, atDsp32}
-use Rattle.memory.specs.Fields.{offsetOf, configuration, gainAt}
+use Rattle.little.specs.Little.{at16, at32, atDsp32}
+use Rattle.fields.specs.Fields.{offsetOf, configuration, gainAt}
 use Rattle.filters.specs.Defaults.{defaultSimple, defaultBiquad}
 use Rattle.filters.specs.declared.state.Filters.{Filters}
 use Rattle.voice.specs.Blank.{defaultVoice}

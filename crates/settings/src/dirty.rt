@@ -43,5 +43,5 @@ pub fn flag(bytes: &[u8], bit: u32) -> bool
     requires { ⌜ (length (now bytes) ≡ 192) × (0 < bit) ⌝ }
     ensures { λ r. ⌜ r ≡ flag (now (bytes .entry)) bit ⌝ }
 {
-    memory::flags::flagged(memory::little::read32(bytes, memory::config::DIRTY), bit)
+    fields::flags::flagged(little::read32(bytes, fields::config::DIRTY), bit)
 }

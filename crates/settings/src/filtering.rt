@@ -1,13 +1,13 @@
 // What the flags of the dirty word do to the filters of a voice.
 use crate::dirty;
 use crate::dirty::flag;
-use crate::signed::signed_at;
+use fields::config;
 use filters::defaults;
 use filters::state::BiquadFilter;
 use filters::state::Filters;
 use filters::state::SimpleFilter;
-use memory::config;
-use memory::little::read16;
+use little::read16;
+use little::signed_at;
 use voice::record::Voice;
 ghost use mathlib.Core.Path.{_≡_};
 ghost use mathlib.Core.Bool.{cond};

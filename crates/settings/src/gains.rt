@@ -1,7 +1,7 @@
 // What a flag of the dirty word does to the gains of a mix.
 use crate::dirty::flag;
-use memory::config;
-use memory::little::read32;
+use fields::config;
+use little::read32;
 use voice::record::Voice;
 ghost use mathlib.Core.Path.{_≡_};
 ghost use Prim.Native.Nat.{_+_, _*_, _^_, _<_, _≤_};
@@ -9,8 +9,8 @@ ghost use lib.ListN.{length};
 ghost use Rattle.lists.specs.Splice.{part, splice};
 ghost use Rattle.lists.specs.Tabulate.{tabulate};
 ghost use Rattle.numbers.specs.Bits.{gain};
-ghost use Rattle.memory.specs.Little.{at32};
-ghost use Rattle.memory.specs.Fields.{gainAt};
+ghost use Rattle.little.specs.Little.{at32};
+ghost use Rattle.fields.specs.Fields.{gainAt};
 ghost use Rattle.settings.specs.Dirty.{GAIN};
 ghost use Rattle.settings.specs.Steps.{gainStep};
 

@@ -5,5 +5,4 @@
 pub mod dirty;
 pub mod filtering;
 pub mod gains;
-pub mod signed;
 pub mod steps;

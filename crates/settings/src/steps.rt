@@ -1,11 +1,11 @@
 // What a flag of the dirty word does to the record, one function for each step that reads no filter and no gain.
 use crate::dirty;
 use crate::dirty::flag;
-use crate::signed::signed_at;
-use memory::config;
-use memory::little::read_dsp32;
-use memory::little::read16;
-use memory::little::read32;
+use fields::config;
+use little::read_dsp32;
+use little::read16;
+use little::read32;
+use little::signed_at;
 use voice::blank;
 use voice::record::Entry;
 use voice::record::Format;
@@ -18,7 +18,7 @@ ghost use lib.ListN.{length};
 ghost use mathlib.Core.Bool.{_||_, cond};
 ghost use Rattle.lists.specs.Tabulate.{tabulate};
 ghost use Rattle.numbers.specs.Wrap.{signed16};
-ghost use Rattle.memory.specs.Little.{at16};
+ghost use Rattle.little.specs.Little.{at16};
 ghost use Rattle.voice.specs.Set.{set-entry-length};
 ghost use Rattle.settings.specs.Dirty.{flag};
 ghost use Rattle.settings.specs.Steps.{interpolationOf, formatIn, resetStep, partialResetStep, enableStep, syncStep, rateStep};

@@ -4,7 +4,7 @@ use mathlib.Core.Bool.{true, false, not}
 use Prim.Native.Nat.{ℕ, _+_}
 use lib.Dec.{eqb}
 use lib.ListN.{getD}
-use Rattle.memory.specs.Little.{at16, atDsp32}
+use Rattle.little.specs.Little.{at16, atDsp32}
 use Rattle.config.specs.Entries.{historyAt, slotEntry}
 use borrow.Author.Needs.{needs}
 use Rattle.config.proofs.entries.slot_entry.Statement.{statement}

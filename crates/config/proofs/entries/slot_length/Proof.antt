@@ -1,7 +1,7 @@
 -- `config::entries::slot_length` meets its contract: the length is read where the slot has it. Assumes nothing.
 use mathlib.Core.Path.{ap, _∙_}
 use Prim.Native.Nat.{ℕ, _+_}
-use Rattle.memory.specs.Little.{atDsp32}
+use Rattle.little.specs.Little.{atDsp32}
 use borrow.Author.Needs.{needs}
 use Rattle.config.proofs.entries.slot_length.Statement.{statement}
 use Rattle.config.proofs.entries.slot_length.Tie as tie

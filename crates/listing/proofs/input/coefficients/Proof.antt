@@ -12,7 +12,7 @@ use borrow.Author.Needs.{needs}
 use Rattle.lists.proofs.Fill.{Filling, filling-none, filling-more, filling-all}
 use Rattle.numbers.specs.Wrap.{signed16}
 use Rattle.numbers.proofs.Bounds.{result-read}
-use Rattle.memory.specs.Little.{at16}
+use Rattle.little.specs.Little.{at16}
 use Rattle.listing.specs.Listing.{signedsIn, coefficientsIn}
 use Rattle.listing.proofs.input.coefficients.Statement.{statement}
 use Rattle.listing.proofs.input.coefficients.Tie as tie

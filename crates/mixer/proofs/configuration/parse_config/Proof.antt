@@ -8,7 +8,7 @@ use lib.Dec.{eqb}
 use lib.Ieee.{nan}
 use lib.ListN.{length, getD}
 use Rattle.numbers.specs.Literals.{+0}
-use Rattle.memory.specs.Flags.{flagged}
+use Rattle.fields.specs.Flags.{flagged}
 use Rattle.lists.proofs.Bools.{cond-yes, cond-no}
 use borrow.Author.Needs.{needs}
 use borrow.Author.Tests.{eq-eqb, ne-eqb}

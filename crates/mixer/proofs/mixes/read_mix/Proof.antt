@@ -8,7 +8,7 @@ use lib.ListN.{length, getD}
 use mir.Syntax.{w32}
 use Rattle.numbers.specs.Wrap.{signed32}
 use Rattle.numbers.proofs.Bounds.{result-read}
-use Rattle.memory.specs.Little.{at32}
+use Rattle.little.specs.Little.{at32}
 use Rattle.lists.proofs.Fill.{Filling, filling-none, filling-more, filling-all}
 use Rattle.lists.proofs.Tabulate.{length-tabulate, getD-tabulate}
 use borrow.Author.Needs.{needs}

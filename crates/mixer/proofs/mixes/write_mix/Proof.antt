@@ -8,7 +8,7 @@ use mir.Syntax.{w32}
 use mir.Val.{SFits}
 use mir.Facts.{toZ-ofZ}
 use Rattle.numbers.specs.Wrap.{modZ}
-use Rattle.memory.specs.Little.{bytes32}
+use Rattle.little.specs.Little.{bytes32}
 use Rattle.lists.proofs.Chunks.{Chunked, chunked-none, chunked-called, chunked-full}
 use borrow.Author.Needs.{needs}
 use Rattle.mixer.specs.Mixes.{wordOf, wordBytes}

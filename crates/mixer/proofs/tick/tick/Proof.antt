@@ -3,7 +3,7 @@ use mathlib.Core.Path.{sym, ap, _∙_, subst}
 use mathlib.Core.List.{List}
 use Prim.Native.Nat.{ℕ}
 use lib.ListN.{length}
-use Rattle.memory.proofs.Places.{accepted}
+use Rattle.layout.proofs.Places.{accepted}
 use Rattle.mixer.specs.declared.tick.Mixed.{Mixed}
 use Rattle.mixer.specs.Tick.{Roomy, Outcome, refusal}
 use Rattle.mixer.proofs.Outcomes.{none, roomy, refused-layout, refused-mixes, refused-region, served-first, served-second}

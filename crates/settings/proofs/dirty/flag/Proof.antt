@@ -2,7 +2,7 @@
 use mathlib.Core.Path.{ap, _∙_}
 use Prim.Native.Nat.{ℕ}
 use borrow.Author.Needs.{needs}
-use Rattle.memory.specs.Flags.{flagged}
+use Rattle.fields.specs.Flags.{flagged}
 use Rattle.settings.proofs.dirty.flag.Statement.{statement}
 use Rattle.settings.proofs.dirty.flag.Tie as tie
 

@@ -11,7 +11,7 @@ use Rattle.lists.specs.Tabulate.{tabulate}
 use Rattle.lists.proofs.Fill.{Filling, filling-none, filling-more, filling-all}
 use Rattle.lists.proofs.Tabulate.{length-tabulate, getD-tabulate}
 use Rattle.numbers.specs.Wrap.{signed16}
-use Rattle.memory.specs.Little.{at16}
+use Rattle.little.specs.Little.{at16}
 use borrow.Author.Needs.{needs}
 use Rattle.settings.proofs.steps.coefficients_in.Statement.{statement}
 use Rattle.settings.proofs.steps.coefficients_in.Tie as tie
