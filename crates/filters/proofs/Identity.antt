@@ -21,7 +21,8 @@ use Rattle.filters.specs.declared.process.Passed.{Passed}
 use Rattle.filters.specs.Defaults.{defaultSimple, defaultBiquad, noFilters}
 use Rattle.filters.specs.Filter.{simpleSum, simpleValue, biquadSum, biquadValue}
 use Rattle.filters.specs.Process.{passSimple, passBiquad, pass, passedFrom, filtersAfter}
-use Rattle.filters.proofs.Passes.{the, AllFit, first-fits, rest-fit}
+use Rattle.filters.specs.Identity.{Default, DefaultsAreIdentities}
+use Rattle.filters.proofs.Passes.{the, first-fits, rest-fit}
 
 -- ---- a sample scaled up and down again
 
@@ -94,13 +95,7 @@ biquad-identity channel f x b a h =
     ∙ no-more s x1)
     ∙ scaled 16383 (omega arith) x h
 
--- ---- the filters of a voice, both with the default coefficients; their marks and their state are any
-
-pub record Default (f : Filters) : Type 0 where
-  pub b0 : f .simple .b0 ≡ defaultSimple .b0
-  pub a1 : f .simple .a1 ≡ defaultSimple .a1
-  pub b : f .biquad .b ≡ defaultBiquad .b
-  pub a : f .biquad .a ≡ defaultBiquad .a
+-- ---- the filters of a voice
 
 record Same (x : ℤ) (p : Passed) : Type 0 where
   value : p .value ≡ x
@@ -129,7 +124,7 @@ pass-same channel f x h d =
     let s = simple-same channel x h f d in
     subst (λ (v : ℤ). Same x (passBiquad channel (passSimple channel f x .filters) v)) (sym (s .value)) (biquad-same channel x h (passSimple channel f x .filters) (s .filters))
 
-pub defaults-are-identities : (channel : ℕ) (f : Filters) (samples : List ℤ) → Default f → AllFit samples → passedFrom channel f samples ≡ samples
+pub defaults-are-identities : DefaultsAreIdentities
 defaults-are-identities channel f [] d fit = refl
 defaults-are-identities channel f (x ∷ samples) d fit =
     let s = pass-same channel f x (first-fits x samples fit) d in

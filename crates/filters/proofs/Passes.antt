@@ -21,6 +21,7 @@ use Rattle.filters.specs.Range.{inRange, allInRange, simpleInRange, biqu
 use Rattle.filters.specs.Defaults.{defaultSimple, defaultBiquad, noFilters}
 use Rattle.filters.specs.Filter.{simpleSum, simpleValue, simpleAfter, biquadSum, biquadValue, moved, biquadAfter}
 use Rattle.filters.specs.Process.{passSimple, passBiquad, pass, passedFrom, filtersAfter}
+use Rattle.filters.specs.Identity.{AllFit}
 use Rattle.filters.proofs.Ranges.{both, sample-range, all-at, all-set}
 
 -- ---- one filter
@@ -176,9 +177,6 @@ length-passed channel f [] = refl
 length-passed channel f (x ∷ samples) = ap suc (length-passed (1 - channel) (pass channel f x .filters) samples)
 
 -- 16 bits hold each sample
-abbrev pub AllFit : List ℤ → Type 0
-AllFit samples = (i : ℕ) → i < length samples → SFits w16 (getD samples i (pos 0))
-
 pub first-fits : (x : ℤ) (samples : List ℤ) → AllFit (x ∷ samples) → SFits w16 x
 first-fits x samples fit = fit 0 (suc-le-suc zero-le)
 

@@ -1,4 +1,5 @@
 pub mod Defaults
 pub mod Range
 pub mod Filter
+pub mod Identity
 pub mod Process

@@ -1,5 +1,6 @@
 // The window that samples are read from, one lent slice of bytes with the address of its first, and the whole-call number 4.
 ghost use mathlib.Core.Path.{_≡_};
+ghost use Prim.Native.Nat.{_-_, _≤_};
 ghost use lib.ListN.{length};
 ghost use Rattle.window.specs.Window.{presentIn, lookUp, windowNumber};
 
@@ -27,6 +28,14 @@ pub fn present(window: &[u8], base: u32, address: u32, count: u32) -> bool
     (address as u64) + (count as u64) <= (base as u64) + (window.len() as u64)
 }
 
+// How far into a window at `base` the byte of an address stands.
+fn offset_of(base: u32, address: u32) -> usize
+    requires { ⌜ base ≤ address ⌝ }
+    ensures { λ r. ⌜ r ≡ address - base ⌝ }
+{
+    (address - base) as usize
+}
+
 // The part of the window that was asked for, or its empty part where some of it is absent.
 pub fn physical<'a>(window: &'a [u8], base: u32, address: u32, length: u32) -> &'a [u8]
     ensures { λ r. ⌜ now r ≡ lookUp (now (window .entry)) base address length ⌝ }
@@ -37,7 +46,7 @@ pub fn physical<'a>(window: &'a [u8], base: u32, address: u32, length: u32) -> &
     if !present(window, base, address, length) {
         return &window[0..0];
     }
-    let start = (address - base) as usize;
+    let start = offset_of(base, address);
     let end = start + (length as usize);
     &window[start..end]
 }

@@ -1,11 +1,12 @@
 -- `window::physical` meets its contract: past both tests the bytes lie inside, so the lent part is the look-up. Assumes nothing.
-use mathlib.Core.Path.{_≡_, sym, _∙_}
+use mathlib.Core.Path.{_≡_, sym, ap, _∙_}
 use mathlib.Core.Bool.{true}
-use Prim.Native.Nat.{_+_, _-_, _≤_}
+use Prim.Native.Nat.{ℕ, _+_, _≤_}
 use native.Mathlib.Omega.{arith}
 use lib.ListN.{length}
 use borrow.Author.Needs.{needs}
 use borrow.Author.Tests.{not-true, not-false}
+use Rattle.lists.specs.Splice.{part}
 use Rattle.lists.proofs.Splice.{lent-is}
 use Rattle.window.specs.Window.{presentIn}
 use Rattle.window.proofs.Bytes.{none-asked, absent, there, inside}
@@ -52,11 +53,8 @@ bounds c =
     let a = c .before .before .before .before .args in
     inside (length (a .window .now)) (a .base) (a .address) (a .length) (lies c) (c .before .before .if1 .left)
 
-sub-start : tie.Need-sub-start
-sub-start c = bounds c .0
-
-cast-start : tie.Need-cast-start
-cast-start c = search needs
+offset-of-requires : tie.Need-offset-of-requires
+offset-of-requires c κs = bounds c .0
 
 add-end : tie.Need-add-end
 add-end c = search needs
@@ -68,13 +66,16 @@ part-result-start-3 : tie.Need-part-result-start-3
 part-result-start-3 c = search needs
 
 part-result-end-3 : tie.Need-part-result-end-3
-part-result-end-3 c = omega (arith, bounds c)
+part-result-end-3 c = omega (arith, bounds (c .before), c .offset-of .ensures)
 
 returns-3 : tie.Need-returns-3
 returns-3 c =
-    let b = c .before in
-    let a = b .before .before .before .before .args in
-    lent-is (a .address - a .base) (a .length) (a .window .now) ∙ there (a .window .now) (a .base) (a .address) (a .length) (lies b)
+    let e = c .before .before in
+    let a = e .before .before .before .before .args in
+    let window = a .window .now in
+    lent-is (c .before .offset-of .result) (a .length) window
+    ∙ ap (λ (start : ℕ). part start (a .length) window) (c .before .offset-of .ensures)
+    ∙ there window (a .base) (a .address) (a .length) (lies e)
 
 pub physical-spec : {M : Type 1} → statement M
 physical-spec =
@@ -89,8 +90,7 @@ physical-spec =
     part-result-start-2
     part-result-end-2
     returns-2
-    sub-start
-    cast-start
+    offset-of-requires
     add-end
     sub-result-3
     part-result-start-3
