@@ -34,7 +34,8 @@ fn scale(exponent: u8) -> i64
 
 // The sum of a sample's code and the history, as a whole number.
 fn sum(exponent: u8, nibble: u8, c1: i16, c2: i16, h: History) -> i64
-    requires { ⌜ (exponent < 16) × (nibble < 16) ⌝ }
+    requires { ⌜ exponent < 16 ⌝ }
+    requires { ⌜ nibble < 16 ⌝ }
     ensures { λ r. ⌜ Is 2684355584 (sumOf h (code exponent c1 c2 nibble)) r ⌝ }
 {
     let xn = signed_nibble(nibble) * scale(exponent) * 2048;
@@ -43,7 +44,8 @@ fn sum(exponent: u8, nibble: u8, c1: i16, c2: i16, h: History) -> i64
 
 // One sample: the sum wrapped, shifted and clamped.
 fn sample(exponent: u8, nibble: u8, c1: i16, c2: i16, h: History) -> i16
-    requires { ⌜ (exponent < 16) × (nibble < 16) ⌝ }
+    requires { ⌜ exponent < 16 ⌝ }
+    requires { ⌜ nibble < 16 ⌝ }
     ensures { λ r. ⌜ r ≡ sampleOf h (code exponent c1 c2 nibble) ⌝ }
 {
     numbers::whole::clamped(numbers::whole::wrapped(sum(exponent, nibble, c1, c2, h)) >> 11)
@@ -51,22 +53,26 @@ fn sample(exponent: u8, nibble: u8, c1: i16, c2: i16, h: History) -> i16
 
 // The nibble of a byte that comes first.
 fn first_nibble(b: u8) -> u8
-    ensures { λ r. ⌜ (r ≡ firstNibble b) × (r < 16) ⌝ }
+    ensures { λ r. ⌜ r ≡ firstNibble b ⌝ }
+    ensures { λ r. ⌜ r < 16 ⌝ }
 {
     b / 16
 }
 
 // The nibble of a byte that comes second.
 fn second_nibble(b: u8) -> u8
-    ensures { λ r. ⌜ (r ≡ secondNibble b) × (r < 16) ⌝ }
+    ensures { λ r. ⌜ r ≡ secondNibble b ⌝ }
+    ensures { λ r. ⌜ r < 16 ⌝ }
 {
     b % 16
 }
 
 // The nibble at an index of a frame's 14.
 fn nibble_at(frame: &[u8], i: usize) -> u8
-    requires { ⌜ (length (now frame) ≡ 8) × (i < 14) ⌝ }
-    ensures { λ r. ⌜ (r ≡ getD (nibbles (drop 1 (now (frame .entry)))) i 0) × (r < 16) ⌝ }
+    requires { ⌜ length (now frame) ≡ 8 ⌝ }
+    requires { ⌜ i < 14 ⌝ }
+    ensures { λ r. ⌜ r ≡ getD (nibbles (drop 1 (now (frame .entry)))) i 0 ⌝ }
+    ensures { λ r. ⌜ r < 16 ⌝ }
 {
     let b = frame[1 + i / 2];
     if i % 2 == 0 {
@@ -84,7 +90,9 @@ fn decode_nibbles(
     h: History,
     samples: &mut [i16],
 ) -> History
-    requires { ⌜ (length (now frame) ≡ 8) × ((length (now samples) ≤ 14) × (exponent < 16)) ⌝ }
+    requires { ⌜ length (now frame) ≡ 8 ⌝ }
+    requires { ⌜ length (now samples) ≤ 14 ⌝ }
+    requires { ⌜ exponent < 16 ⌝ }
     ensures samples { λ _. ⌜ now (samples .exit) ≡
         samplesOf sampleOf h (take (length (now (samples .entry))) (codesBy exponent c1 c2 (now (frame .entry)))) ⌝ }
     ensures history { λ r. ⌜ r ≡
@@ -114,7 +122,9 @@ fn decode_pairs(
     h: History,
     samples: &mut [i16],
 ) -> History
-    requires { ⌜ (length (now frame) ≡ 8) × ((length (now samples) ≡ 14) × (exponent < 16)) ⌝ }
+    requires { ⌜ length (now frame) ≡ 8 ⌝ }
+    requires { ⌜ length (now samples) ≡ 14 ⌝ }
+    requires { ⌜ exponent < 16 ⌝ }
     ensures samples { λ _. ⌜ now (samples .exit) ≡ samplesOf sampleOf h (codesBy exponent c1 c2 (now (frame .entry))) ⌝ }
     ensures history { λ r. ⌜ r ≡ historyAfter sampleOf h (codesBy exponent c1 c2 (now (frame .entry))) ⌝ }
 {
@@ -137,21 +147,24 @@ fn decode_pairs(
 
 // The exponent of the scale that a header names.
 fn exponent_of(header: u8) -> u8
-    ensures { λ r. ⌜ (r ≡ header % 16) × (r < 16) ⌝ }
+    ensures { λ r. ⌜ r ≡ header % 16 ⌝ }
+    ensures { λ r. ⌜ r < 16 ⌝ }
 {
     header & 15
 }
 
 // The predictor that a header names.
 fn predictor_of(header: u8) -> usize
-    ensures { λ r. ⌜ (r ≡ header / 16 % 8) × (r < 8) ⌝ }
+    ensures { λ r. ⌜ r ≡ header / 16 % 8 ⌝ }
+    ensures { λ r. ⌜ r < 8 ⌝ }
 {
     ((header >> 4) & 7) as usize
 }
 
 // Decodes as many samples of a frame as `samples` holds, 14 at most.
 fn decode_frame(frame: &[u8], coefficients: &[i16; 16], h: History, samples: &mut [i16]) -> History
-    requires { ⌜ (length (now frame) ≡ 8) × (length (now samples) ≤ 14) ⌝ }
+    requires { ⌜ length (now frame) ≡ 8 ⌝ }
+    requires { ⌜ length (now samples) ≤ 14 ⌝ }
     ensures samples { λ _. ⌜ now (samples .exit) ≡
         samplesOf sampleOf h (take (length (now (samples .entry))) (frameCodes (now (coefficients .entry)) (now (frame .entry)))) ⌝ }
     ensures history { λ r. ⌜ r ≡
@@ -183,7 +196,9 @@ fn decode_all(
     h: History,
     samples: &mut [i16],
 ) -> History
-    requires { ⌜ (length (now «data») ≡ framesOf count * 8) × ((count ≤ length (now samples)) × (count ≤ 65536)) ⌝ }
+    requires { ⌜ length (now «data») ≡ framesOf count * 8 ⌝ }
+    requires { ⌜ count ≤ length (now samples) ⌝ }
+    requires { ⌜ count ≤ 65536 ⌝ }
     ensures samples { λ _. ⌜ now (samples .exit) ≡
         decodedSamples sampleOf (now (coefficients .entry)) h (now («data» .entry)) count ++ drop count (now (samples .entry)) ⌝ }
     ensures history { λ r. ⌜ r ≡ decodedHistory sampleOf (now (coefficients .entry)) h (now («data» .entry)) count ⌝ }

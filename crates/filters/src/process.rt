@@ -17,7 +17,8 @@ pub struct Passed {
 }
 
 fn pass_simple(filters: Filters, channel: usize, x: i16) -> Passed
-    requires { ⌜ T (filtersInRange filters) × (channel < 2) ⌝ }
+    requires { ⌜ T (filtersInRange filters) ⌝ }
+    requires { ⌜ channel < 2 ⌝ }
     ensures { λ r. ⌜ r ≡ passSimple channel filters x ⌝ }
 {
     if !filters.has_simple {
@@ -34,7 +35,8 @@ fn pass_simple(filters: Filters, channel: usize, x: i16) -> Passed
 }
 
 fn pass_biquad(filters: Filters, channel: usize, x: i16) -> Passed
-    requires { ⌜ T (filtersInRange filters) × (channel < 2) ⌝ }
+    requires { ⌜ T (filtersInRange filters) ⌝ }
+    requires { ⌜ channel < 2 ⌝ }
     ensures { λ r. ⌜ r ≡ passBiquad channel filters x ⌝ }
 {
     if !filters.has_biquad {
@@ -51,7 +53,8 @@ fn pass_biquad(filters: Filters, channel: usize, x: i16) -> Passed
 }
 
 pub fn pass(filters: Filters, channel: usize, x: i16) -> Passed
-    requires { ⌜ T (filtersInRange filters) × (channel < 2) ⌝ }
+    requires { ⌜ T (filtersInRange filters) ⌝ }
+    requires { ⌜ channel < 2 ⌝ }
     ensures { λ r. ⌜ r ≡ pass channel filters x ⌝ }
 {
     let s = pass_simple(filters, channel, x);

@@ -21,7 +21,8 @@ fn kept(x: i16) -> i32
 
 // A coefficient times a value, with its bound.
 fn term(a: i32, x: i32) -> i64
-    requires { ⌜ T (inRange a) × T (inRange x) ⌝ }
+    requires { ⌜ T (inRange a) ⌝ }
+    requires { ⌜ T (inRange x) ⌝ }
     ensures { λ r. ⌜ Is 1073741824 (a *ℤ x) r ⌝ }
 {
     wide32(a) * wide32(x)
@@ -29,7 +30,8 @@ fn term(a: i32, x: i32) -> i64
 
 // The sum of the simple filter, as a whole number.
 fn simple_sum(f: SimpleFilter, channel: usize, x: i16) -> i64
-    requires { ⌜ T (simpleInRange f) × (channel < 2) ⌝ }
+    requires { ⌜ T (simpleInRange f) ⌝ }
+    requires { ⌜ channel < 2 ⌝ }
     ensures { λ r. ⌜ Is 2147483648 (simpleSum channel f x) r ⌝ }
 {
     term(f.b0, kept(x)) + term(f.a1, f.y1[channel])
@@ -37,7 +39,8 @@ fn simple_sum(f: SimpleFilter, channel: usize, x: i16) -> i64
 
 // The sum of the biquad filter, as a whole number.
 fn biquad_sum(f: BiquadFilter, channel: usize, x: i16) -> i64
-    requires { ⌜ T (biquadInRange f) × (channel < 2) ⌝ }
+    requires { ⌜ T (biquadInRange f) ⌝ }
+    requires { ⌜ channel < 2 ⌝ }
     ensures { λ r. ⌜ Is 5368709120 (biquadSum channel f x) r ⌝ }
 {
     let older = channel + 2;
@@ -46,14 +49,16 @@ fn biquad_sum(f: BiquadFilter, channel: usize, x: i16) -> i64
 }
 
 pub fn simple_value(f: SimpleFilter, channel: usize, x: i16) -> i16
-    requires { ⌜ T (simpleInRange f) × (channel < 2) ⌝ }
+    requires { ⌜ T (simpleInRange f) ⌝ }
+    requires { ⌜ channel < 2 ⌝ }
     ensures { λ r. ⌜ r ≡ simpleValue channel f x ⌝ }
 {
     clamped(wrapped(simple_sum(f, channel, x)) >> 15)
 }
 
 pub fn biquad_value(f: BiquadFilter, channel: usize, x: i16) -> i16
-    requires { ⌜ T (biquadInRange f) × (channel < 2) ⌝ }
+    requires { ⌜ T (biquadInRange f) ⌝ }
+    requires { ⌜ channel < 2 ⌝ }
     ensures { λ r. ⌜ r ≡ biquadValue channel f x ⌝ }
 {
     clamped(wrapped(biquad_sum(f, channel, x)) >> 14)

@@ -36,7 +36,8 @@ pub fn history(bytes: &[u8]) -> History
 
 // A 16-bit number as a count, with its bound.
 fn wide(x: u16) -> usize
-    ensures { λ r. ⌜ (r ≡ x) × (r < 65536) ⌝ }
+    ensures { λ r. ⌜ r ≡ x ⌝ }
+    ensures { λ r. ⌜ r < 65536 ⌝ }
 {
     x as usize
 }
@@ -44,7 +45,8 @@ fn wide(x: u16) -> usize
 // How many samples the frames hold.
 pub fn count(bytes: &[u8]) -> usize
     requires { ⌜ header ≤ length (now bytes) ⌝ }
-    ensures { λ r. ⌜ (r ≡ countIn (now (bytes .entry))) × (r < 65536) ⌝ }
+    ensures { λ r. ⌜ r ≡ countIn (now (bytes .entry)) ⌝ }
+    ensures { λ r. ⌜ r < 65536 ⌝ }
 {
     wide(little::read16(bytes, 36))
 }

@@ -18,7 +18,8 @@ use sizes::OUTPUT_ROOM;
 
 // Decodes a complete input of so many samples into the first places of `samples`.
 fn decode(bytes: &[u8], count: usize, samples: &mut [i16]) -> History
-    requires { ⌜ Whole (now bytes) count × (count ≤ length (now samples)) ⌝ }
+    requires { ⌜ Whole (now bytes) count ⌝ }
+    requires { ⌜ count ≤ length (now samples) ⌝ }
     ensures samples { λ _. ⌜ take count (now (samples .exit)) ≡ samplesIn (now (bytes .entry)) ⌝ }
     ensures history { λ r. ⌜ r ≡ lastHistoryIn (now (bytes .entry)) ⌝ }
 {
@@ -30,7 +31,9 @@ fn decode(bytes: &[u8], count: usize, samples: &mut [i16]) -> History
 
 // Decodes a complete input of so many samples, and puts both tables.
 fn put_decoded(bytes: &[u8], count: usize, samples: &mut [i16], output: &mut [u8]) -> usize
-    requires { ⌜ Whole (now bytes) count × ((count ≤ length (now samples)) × (length (now output) ≡ outputRoom)) ⌝ }
+    requires { ⌜ Whole (now bytes) count ⌝ }
+    requires { ⌜ count ≤ length (now samples) ⌝ }
+    requires { ⌜ length (now output) ≡ outputRoom ⌝ }
     ensures tables { λ r. ⌜ Put (now (output .entry)) 0 (tablesOf (now (bytes .entry))) (now (output .exit)) r ⌝ }
     ensures next { λ r. ⌜ r ≤ outputRoom ⌝ }
 {
@@ -57,7 +60,8 @@ pub fn listing(input: &[u8], output: &mut [u8; OUTPUT_ROOM]) -> usize
 
 // Lists an input of which `got` bytes were read into a buffer, all of it or as many as the buffer holds. What was not read changes nothing.
 pub fn list_read(buffer: &[u8], got: usize, output: &mut [u8; OUTPUT_ROOM]) -> usize
-    requires { ⌜ (length (now buffer) ≡ inputRoom) × (got ≤ inputRoom) ⌝ }
+    requires { ⌜ length (now buffer) ≡ inputRoom ⌝ }
+    requires { ⌜ got ≤ inputRoom ⌝ }
     ensures length { λ r. ⌜ ((input : List ℕ) → take got (now (buffer .entry)) ≡ readOf input → r ≡ length (listed input)) ⌝ }
     ensures output { λ r. ⌜ ((input : List ℕ) → take got (now (buffer .entry)) ≡ readOf input
         → now (output .exit) ≡ listed input ++ drop r (now (output .entry))) ⌝ }

@@ -13,7 +13,9 @@ use adpcm::History;
 
 // Puts a line of headings.
 fn put_headings(left: &[u8], right: &[u8], output: &mut [u8], at: usize) -> usize
-    requires { ⌜ (length (now left) ≤ width) × ((length (now right) ≤ width) × (at + lineBytes ≤ length (now output))) ⌝ }
+    requires { ⌜ length (now left) ≤ width ⌝ }
+    requires { ⌜ length (now right) ≤ width ⌝ }
+    requires { ⌜ at + lineBytes ≤ length (now output) ⌝ }
     ensures row { λ r. ⌜ Put (now (output .entry)) at (row (now (left .entry)) (now (right .entry))) (now (output .exit)) r ⌝ }
     ensures next { λ r. ⌜ r ≡ at + lineBytes ⌝ }
 {
@@ -34,7 +36,8 @@ fn put_last(y: i16, output: &mut [u8], at: usize) -> usize
 
 // Puts a line for each sample.
 fn put_rows(samples: &[i16], output: &mut [u8], at: usize) -> usize
-    requires { ⌜ (length (now samples) ≤ mostSamples) × (at + length (now samples) * lineBytes ≤ length (now output)) ⌝ }
+    requires { ⌜ length (now samples) ≤ mostSamples ⌝ }
+    requires { ⌜ at + length (now samples) * lineBytes ≤ length (now output) ⌝ }
     ensures rows { λ r. ⌜ Put (now (output .entry)) at (rows 0 (now (samples .entry))) (now (output .exit)) r ⌝ }
     ensures next { λ r. ⌜ r ≡ at + length (now (samples .entry)) * lineBytes ⌝ }
 {
@@ -50,7 +53,8 @@ fn put_rows(samples: &[i16], output: &mut [u8], at: usize) -> usize
 
 // Puts the samples and the history, each under a line of headings.
 pub fn put_tables(samples: &[i16], h: History, output: &mut [u8]) -> usize
-    requires { ⌜ (length (now samples) ≤ mostSamples) × ((length (now samples) + 3) * lineBytes ≤ length (now output)) ⌝ }
+    requires { ⌜ length (now samples) ≤ mostSamples ⌝ }
+    requires { ⌜ (length (now samples) + 3) * lineBytes ≤ length (now output) ⌝ }
     ensures tables { λ r. ⌜ Put (now (output .entry)) 0 (tables (now (samples .entry)) h) (now (output .exit)) r ⌝ }
     ensures next { λ r. ⌜ r ≡ (length (now (samples .entry)) + 3) * lineBytes ⌝ }
 {

@@ -37,7 +37,8 @@ fn put_spaces(count: usize, output: &mut [u8], at: usize) -> usize
 
 // Puts a text right-justified in a column of any width.
 pub fn put_column(text: &[u8], output: &mut [u8], at: usize, width: usize) -> usize
-    requires { ⌜ (length (now text) ≤ width) × (at + width ≤ length (now output)) ⌝ }
+    requires { ⌜ length (now text) ≤ width ⌝ }
+    requires { ⌜ at + width ≤ length (now output) ⌝ }
     ensures column { λ r. ⌜ Put (now (output .entry)) at (column width (now (text .entry))) (now (output .exit)) r ⌝ }
     ensures next { λ r. ⌜ r ≡ at + width ⌝ }
 {
@@ -73,7 +74,8 @@ const LONGEST_NUMERAL: usize = 21;
 
 // Puts a number, negative or not, in a column of any width that it fits.
 pub fn put_number(negative: bool, n: usize, output: &mut [u8], at: usize, width: usize) -> usize
-    requires { ⌜ (length (numeral negative n) ≤ width) × (at + width ≤ length (now output)) ⌝ }
+    requires { ⌜ length (numeral negative n) ≤ width ⌝ }
+    requires { ⌜ at + width ≤ length (now output) ⌝ }
     ensures column { λ r. ⌜ Put (now (output .entry)) at (column width (numeral negative n)) (now (output .exit)) r ⌝ }
     ensures next { λ r. ⌜ r ≡ at + width ⌝ }
 {
@@ -89,7 +91,8 @@ pub fn put_number(negative: bool, n: usize, output: &mut [u8], at: usize, width:
 
 // Puts a sample in a column of any width that every sample fits.
 pub fn put_signed(y: i16, output: &mut [u8], at: usize, width: usize) -> usize
-    requires { ⌜ (6 ≤ width) × (at + width ≤ length (now output)) ⌝ }
+    requires { ⌜ 6 ≤ width ⌝ }
+    requires { ⌜ at + width ≤ length (now output) ⌝ }
     ensures column { λ r. ⌜ Put (now (output .entry)) at (column width (signedDecimal y)) (now (output .exit)) r ⌝ }
     ensures next { λ r. ⌜ r ≡ at + width ⌝ }
 {

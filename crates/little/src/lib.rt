@@ -7,13 +7,15 @@ ghost use Rattle.numbers.specs.Wrap.{signed16};
 ghost use Rattle.little.specs.Little.{at16, at32, atDsp32, bytes16, bytes32, dsp32Bytes};
 
 fn wide8(x: u8) -> u16
-    ensures { λ r. ⌜ (r ≡ x) × (r < 256) ⌝ }
+    ensures { λ r. ⌜ r ≡ x ⌝ }
+    ensures { λ r. ⌜ r < 256 ⌝ }
 {
     x as u16
 }
 
 fn wide16(x: u16) -> u32
-    ensures { λ r. ⌜ (r ≡ x) × (r < 65536) ⌝ }
+    ensures { λ r. ⌜ r ≡ x ⌝ }
+    ensures { λ r. ⌜ r < 65536 ⌝ }
 {
     x as u32
 }

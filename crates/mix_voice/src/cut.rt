@@ -43,7 +43,10 @@ pub fn base_of(quarter: f32) -> i32
 
 // The part of a sample, which is also handed in as a float, with its quarter and base.
 pub fn cut(gain: f32, sample: i16, s: f32, quarter: f32, base: i32) -> i32
-    requires { ⌜ (quick gain ≡ true) × ((s ≡ single sample) × ((quarter ≡ quarterOf s) × (base ≡ baseOf quarter))) ⌝ }
+    requires { ⌜ quick gain ≡ true ⌝ }
+    requires { ⌜ s ≡ single sample ⌝ }
+    requires { ⌜ quarter ≡ quarterOf s ⌝ }
+    requires { ⌜ base ≡ baseOf quarter ⌝ }
     ensures { λ r. ⌜ r ≡ at-gain gain sample ⌝ }
 {
     let t = (gain * s - quarter) + MIDDLE;

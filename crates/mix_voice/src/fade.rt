@@ -18,7 +18,9 @@ ghost use Rattle.mix_voice.specs.Mixed.{gainsOf, steadyAt, eitherAt, mix
 
 // Adds the frame to mix m at steady gains: nothing at gains of 0.0.
 fn steady_mix(mixes: &mut [i32], m: usize, frame: &[i16], g: Gains)
-    requires { ⌜ (length (now mixes) ≡ MIXES) × ((length (now frame) ≡ FRAME) × (m < 3)) ⌝ }
+    requires { ⌜ length (now mixes) ≡ MIXES ⌝ }
+    requires { ⌜ length (now frame) ≡ FRAME ⌝ }
+    requires { ⌜ m < 3 ⌝ }
     ensures { λ _. ⌜ now (mixes .exit) ≡ mixed m (steadyAt g (now (frame .entry))) (now (mixes .entry)) ⌝ }
 {
     if is_silent(g) {
@@ -35,7 +37,9 @@ fn steady_mix(mixes: &mut [i32], m: usize, frame: &[i16], g: Gains)
 
 // Adds the frame to mix m, which fades where `on` says so.
 fn ramped_mix(on: bool, mixes: &mut [i32], m: usize, frame: &[i16], from: Gains, to: Gains)
-    requires { ⌜ (length (now mixes) ≡ MIXES) × ((length (now frame) ≡ FRAME) × (m < 3)) ⌝ }
+    requires { ⌜ length (now mixes) ≡ MIXES ⌝ }
+    requires { ⌜ length (now frame) ≡ FRAME ⌝ }
+    requires { ⌜ m < 3 ⌝ }
     ensures { λ _. ⌜ now (mixes .exit) ≡ mixed m (eitherAt on from to (now (frame .entry))) (now (mixes .entry)) ⌝ }
 {
     if on {
@@ -47,8 +51,10 @@ fn ramped_mix(on: bool, mixes: &mut [i32], m: usize, frame: &[i16], from: Gains,
 
 // Adds the frame to one mix after the other.
 fn each_mix(mixes: &mut [i32], frame: &[i16], gains: &[f32], ramp: &[f32], marks: [bool; 3])
-    requires { ⌜ (length (now mixes) ≡ MIXES) × (length (now frame) ≡ FRAME) ⌝ }
-    requires { ⌜ (length (now gains) ≡ GAINS) × (length (now ramp) ≡ GAINS) ⌝ }
+    requires { ⌜ length (now mixes) ≡ MIXES ⌝ }
+    requires { ⌜ length (now frame) ≡ FRAME ⌝ }
+    requires { ⌜ length (now gains) ≡ GAINS ⌝ }
+    requires { ⌜ length (now ramp) ≡ GAINS ⌝ }
     ensures { λ _. ⌜ now (mixes .exit) ≡ ramped marks (now (ramp .entry)) (now (gains .entry)) (now (frame .entry)) (now (mixes .entry)) ⌝ }
 {
     ramped_mix(
@@ -111,8 +117,10 @@ fn all_heard(gains: &[f32]) -> bool
 
 // Adds the frame of a voice to the mixes: `marks` says which of them fade, from the gains of `ramp` to those of `gains`.
 pub fn mix_voice(mixes: &mut [i32], frame: &[i16], gains: &[f32], ramp: &[f32], marks: [bool; 3])
-    requires { ⌜ (length (now mixes) ≡ MIXES) × (length (now frame) ≡ FRAME) ⌝ }
-    requires { ⌜ (length (now gains) ≡ GAINS) × (length (now ramp) ≡ GAINS) ⌝ }
+    requires { ⌜ length (now mixes) ≡ MIXES ⌝ }
+    requires { ⌜ length (now frame) ≡ FRAME ⌝ }
+    requires { ⌜ length (now gains) ≡ GAINS ⌝ }
+    requires { ⌜ length (now ramp) ≡ GAINS ⌝ }
     ensures { λ _. ⌜ now (mixes .exit) ≡ ramped marks (now (ramp .entry)) (now (gains .entry)) (now (frame .entry)) (now (mixes .entry)) ⌝ }
 {
     if none_fades(marks) {

@@ -38,7 +38,8 @@ pub fn all_quick(g: Gains) -> bool
 
 // Adds the pair a, b of samples to a mix, of which the first channel has the place `at` for it.
 fn quick_at(mixes: &mut [i32], at: usize, a: i16, b: i16, g: Gains)
-    requires { ⌜ (at + 3 * «FRAME_SAMPLES» < length (now mixes)) × (allQuick g ≡ true) ⌝ }
+    requires { ⌜ at + 3 * «FRAME_SAMPLES» < length (now mixes) ⌝ }
+    requires { ⌜ allQuick g ≡ true ⌝ }
     ensures { λ _. ⌜ now (mixes .exit) ≡ paired g a b at (now (mixes .entry)) ⌝ }
 {
     let s = single_of_i16(a);
@@ -56,7 +57,10 @@ fn quick_at(mixes: &mut [i32], at: usize, a: i16, b: i16, g: Gains)
 
 // Adds the frame to mix m.
 pub fn quick_mix(mixes: &mut [i32], m: usize, frame: &[i16], g: Gains)
-    requires { ⌜ (length (now mixes) ≡ MIXES) × ((length (now frame) ≡ FRAME) × ((m < 3) × (allQuick g ≡ true))) ⌝ }
+    requires { ⌜ length (now mixes) ≡ MIXES ⌝ }
+    requires { ⌜ length (now frame) ≡ FRAME ⌝ }
+    requires { ⌜ m < 3 ⌝ }
+    requires { ⌜ allQuick g ≡ true ⌝ }
     ensures { λ _. ⌜ now (mixes .exit) ≡ mixed m (steadyAt g (now (frame .entry))) (now (mixes .entry)) ⌝ }
 {
     let mut i = 0;
@@ -70,7 +74,9 @@ pub fn quick_mix(mixes: &mut [i32], m: usize, frame: &[i16], g: Gains)
 
 // Adds the frame to all mixes at once.
 pub fn quick_all(mixes: &mut [i32], frame: &[i16], gains: &[f32])
-    requires { ⌜ (length (now mixes) ≡ MIXES) × ((length (now frame) ≡ FRAME) × (length (now gains) ≡ GAINS)) ⌝ }
+    requires { ⌜ length (now mixes) ≡ MIXES ⌝ }
+    requires { ⌜ length (now frame) ≡ FRAME ⌝ }
+    requires { ⌜ length (now gains) ≡ GAINS ⌝ }
     requires { ⌜ ((m : ℕ) → m < 3 → allQuick (gainsOf (now gains) m) ≡ true) ⌝ }
     ensures { λ _. ⌜ now (mixes .exit) ≡ voiced (now (gains .entry)) (now (frame .entry)) (now (mixes .entry)) ⌝ }
 {

@@ -27,7 +27,9 @@ fn part_of(on: bool, from: f32, to: f32, i: usize, sample: i16) -> i32
 
 // Adds the frame to mix m.
 pub fn slow_mix(on: bool, mixes: &mut [i32], m: usize, frame: &[i16], from: Gains, to: Gains)
-    requires { ⌜ (length (now mixes) ≡ MIXES) × ((length (now frame) ≡ FRAME) × (m < 3)) ⌝ }
+    requires { ⌜ length (now mixes) ≡ MIXES ⌝ }
+    requires { ⌜ length (now frame) ≡ FRAME ⌝ }
+    requires { ⌜ m < 3 ⌝ }
     ensures { λ _. ⌜ now (mixes .exit) ≡ mixed m (eitherAt on from to (now (frame .entry))) (now (mixes .entry)) ⌝ }
 {
     let mut i = 0;

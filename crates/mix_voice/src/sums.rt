@@ -22,7 +22,8 @@ pub struct Gains {
 
 // The gains of mix m out of those of all mixes.
 pub fn gains_of(gains: &[f32], m: usize) -> Gains
-    requires { ⌜ (length (now gains) ≡ GAINS) × (m < 3) ⌝ }
+    requires { ⌜ length (now gains) ≡ GAINS ⌝ }
+    requires { ⌜ m < 3 ⌝ }
     ensures { λ r. ⌜ r ≡ gainsOf (now (gains .entry)) m ⌝ }
 {
     let g = m * 4;

@@ -21,7 +21,10 @@ fn fewer(a: usize, b: usize) -> usize
 
 // Plays on into the frame from `output`, as `stretch` does at that rate.
 pub fn plain(samples: &[i16], c: Cursor, frame: &mut [i16; FRAME], output: usize) -> Reached
-    requires { ⌜ (output ≤ «FRAME_SAMPLES») × (1 < c .remaining) × (c .remaining ≤ length (now samples)) × (eq (c .fraction) +0 ≡ true) ⌝ }
+    requires { ⌜ output ≤ «FRAME_SAMPLES» ⌝ }
+    requires { ⌜ 1 < c .remaining ⌝ }
+    requires { ⌜ c .remaining ≤ length (now samples) ⌝ }
+    requires { ⌜ eq (c .fraction) +0 ≡ true ⌝ }
     ensures { λ r. ⌜ Stretched +1 c («FRAME_SAMPLES» - output) r ⌝ }
     ensures { λ r. ⌜ now (frame .exit) ≡ played +1 c (now (samples .entry)) output (r .count) (now (frame .entry)) ⌝ }
 {
@@ -61,8 +64,10 @@ pub fn advance(
     frame: &mut [i16; FRAME],
     output: usize,
 ) -> Reached
-    requires { ⌜ (output ≤ «FRAME_SAMPLES») × (1 < c .remaining) × (c .remaining ≤ length (now samples))
-        × (length (now samples) < 4294967296) ⌝ }
+    requires { ⌜ output ≤ «FRAME_SAMPLES» ⌝ }
+    requires { ⌜ 1 < c .remaining ⌝ }
+    requires { ⌜ c .remaining ≤ length (now samples) ⌝ }
+    requires { ⌜ length (now samples) < 4294967296 ⌝ }
     ensures { λ r. ⌜ Stretched rate c («FRAME_SAMPLES» - output) r ⌝ }
     ensures { λ r. ⌜ now (frame .exit) ≡ played rate c (now (samples .entry)) output (r .count) (now (frame .entry)) ⌝ }
 {

@@ -28,13 +28,15 @@ pub struct Reached {
 // A whole number as a count.
 fn counted(w: f64) -> usize
     requires { ⌜ w ≡ double (pos (cast-u32 w)) ⌝ }
-    ensures { λ r. ⌜ (r ≡ cast-u32 w) × (r < 4294967296) ⌝ }
+    ensures { λ r. ⌜ r ≡ cast-u32 w ⌝ }
+    ensures { λ r. ⌜ r < 4294967296 ⌝ }
 {
     (w as i64) as usize
 }
 
 fn places(x: f64) -> usize
-    ensures { λ r. ⌜ (r ≡ cast-u32 x) × (r < 4294967296) ⌝ }
+    ensures { λ r. ⌜ r ≡ cast-u32 x ⌝ }
+    ensures { λ r. ⌜ r < 4294967296 ⌝ }
 {
     counted(whole_u32(x))
 }
@@ -48,9 +50,12 @@ fn walk_any(
     pairs: &mut [i16; FRAME],
     fractions: &mut [f64; FRAME_SAMPLES],
 ) -> Reached
-    requires { ⌜ (room ≤ «FRAME_SAMPLES») × (1 < c .remaining) × (c .remaining ≤ length (now samples))
-        × (length (now samples) < 4294967296) ⌝ }
-    requires { ⌜ (length (now pairs) ≡ FRAME) × (length (now fractions) ≡ «FRAME_SAMPLES») ⌝ }
+    requires { ⌜ room ≤ «FRAME_SAMPLES» ⌝ }
+    requires { ⌜ 1 < c .remaining ⌝ }
+    requires { ⌜ c .remaining ≤ length (now samples) ⌝ }
+    requires { ⌜ length (now samples) < 4294967296 ⌝ }
+    requires { ⌜ length (now pairs) ≡ FRAME ⌝ }
+    requires { ⌜ length (now fractions) ≡ «FRAME_SAMPLES» ⌝ }
     ensures { λ r. ⌜ Stretched rate c room r ⌝ }
     ensures { λ r. ⌜ Walked rate c (now (samples .entry)) (now (pairs .exit)) (now (fractions .exit)) (r .count) ⌝ }
 {
@@ -121,10 +126,14 @@ fn walk_steady(
     pairs: &mut [i16; FRAME],
     fractions: &mut [f64; FRAME_SAMPLES],
 ) -> Reached
-    requires { ⌜ (room ≤ «FRAME_SAMPLES») × (1 < c .remaining) × (c .remaining ≤ length (now samples))
-        × (length (now samples) < 4294967296) ⌝ }
-    requires { ⌜ (length (now pairs) ≡ FRAME) × (length (now fractions) ≡ «FRAME_SAMPLES») ⌝ }
-    requires { ⌜ Part (c .fraction) × Slow rate ⌝ }
+    requires { ⌜ room ≤ «FRAME_SAMPLES» ⌝ }
+    requires { ⌜ 1 < c .remaining ⌝ }
+    requires { ⌜ c .remaining ≤ length (now samples) ⌝ }
+    requires { ⌜ length (now samples) < 4294967296 ⌝ }
+    requires { ⌜ length (now pairs) ≡ FRAME ⌝ }
+    requires { ⌜ length (now fractions) ≡ «FRAME_SAMPLES» ⌝ }
+    requires { ⌜ Part (c .fraction) ⌝ }
+    requires { ⌜ Slow rate ⌝ }
     ensures { λ r. ⌜ Stretched rate c room r ⌝ }
     ensures { λ r. ⌜ Walked rate c (now (samples .entry)) (now (pairs .exit)) (now (fractions .exit)) (r .count) ⌝ }
 {
@@ -172,9 +181,12 @@ fn walk(
     pairs: &mut [i16; FRAME],
     fractions: &mut [f64; FRAME_SAMPLES],
 ) -> Reached
-    requires { ⌜ (room ≤ «FRAME_SAMPLES») × (1 < c .remaining) × (c .remaining ≤ length (now samples))
-        × (length (now samples) < 4294967296) ⌝ }
-    requires { ⌜ (length (now pairs) ≡ FRAME) × (length (now fractions) ≡ «FRAME_SAMPLES») ⌝ }
+    requires { ⌜ room ≤ «FRAME_SAMPLES» ⌝ }
+    requires { ⌜ 1 < c .remaining ⌝ }
+    requires { ⌜ c .remaining ≤ length (now samples) ⌝ }
+    requires { ⌜ length (now samples) < 4294967296 ⌝ }
+    requires { ⌜ length (now pairs) ≡ FRAME ⌝ }
+    requires { ⌜ length (now fractions) ≡ «FRAME_SAMPLES» ⌝ }
     ensures { λ r. ⌜ Stretched rate c room r ⌝ }
     ensures { λ r. ⌜ Walked rate c (now (samples .entry)) (now (pairs .exit)) (now (fractions .exit)) (r .count) ⌝ }
 {
@@ -213,8 +225,10 @@ pub fn stretch(
     frame: &mut [i16; FRAME],
     output: usize,
 ) -> Reached
-    requires { ⌜ (output ≤ «FRAME_SAMPLES») × (1 < c .remaining) × (c .remaining ≤ length (now samples))
-        × (length (now samples) < 4294967296) ⌝ }
+    requires { ⌜ output ≤ «FRAME_SAMPLES» ⌝ }
+    requires { ⌜ 1 < c .remaining ⌝ }
+    requires { ⌜ c .remaining ≤ length (now samples) ⌝ }
+    requires { ⌜ length (now samples) < 4294967296 ⌝ }
     ensures { λ r. ⌜ Stretched rate c («FRAME_SAMPLES» - output) r ⌝ }
     ensures { λ r. ⌜ now (frame .exit) ≡ played rate c (now (samples .entry)) output (r .count) (now (frame .entry)) ⌝ }
 {

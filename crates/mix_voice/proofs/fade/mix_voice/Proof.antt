@@ -14,7 +14,7 @@ all-heard-requires c κs = search needs
 quick-all-requires : tie.Need-quick-all-requires
 quick-all-requires c κs =
     let a = c .before .before .before .before .before .before .before in
-    ((a .pre .0 .0, (a .pre .0 .1, a .pre .1 .0)), c .before .before .all-heard .ensures (c .before .if2 .taken))
+    (a .pre .0, (a .pre .1 .0, (a .pre .1 .1 .0, c .before .before .all-heard .ensures (c .before .if2 .taken))))
 
 same-length : tie.Need-same-length
 same-length c = search needs

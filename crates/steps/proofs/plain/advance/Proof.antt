@@ -16,7 +16,7 @@ plain-requires : tie.Need-plain-requires
 plain-requires c κs =
     let t = c .before in
     let s = t .before .before .before in
-    (s .pre .0, s .pre .1, s .pre .2, ap (λ (y : Float). eq (s .args .c .fraction) y) (sym zero-64) ∙ t .if2 .taken)
+    (s .pre .0, (s .pre .1 .0, (s .pre .1 .1 .0, ap (λ (y : Float). eq (s .args .c .fraction) y) (sym zero-64) ∙ t .if2 .taken)))
 
 returns : tie.Need-returns
 returns c =

@@ -41,7 +41,7 @@ returns : tie.Need-returns Inv-loop μ-loop
 returns c =
     let s = c .before .before .before in
     let a = s .args in
-    (none-reached (a .c) (160 - a .output) (s .pre .3) (omega arith), none-played (a .c) (now (a .samples)) (a .output) (now (a .frame)))
+    (none-reached (a .c) (160 - a .output) (s .pre .1 .1 .1) (omega arith), none-played (a .c) (now (a .samples)) (a .output) (now (a .frame)))
 
 loop-holds : tie.Need-loop-holds Inv-loop μ-loop
 loop-holds c =
@@ -107,7 +107,7 @@ loop-again c =
     let y : toZ w16 (ofZ w16 x) ≡ x = toZ-ofZ (record { sfits = c .before .s .given }) in (
       omega arith,
       (λ j. both (l .loop .inv .1 j) (a .output + i) (y j))
-          ∙ sym (played-plain (a .c) (now (a .samples)) (a .output) i (now (a .frame)) (s .pre .3) (omega arith) (omega arith) (c .before .s .given) (c .next .given)),
+          ∙ sym (played-plain (a .c) (now (a .samples)) (a .output) i (now (a .frame)) (s .pre .1 .1 .1) (omega arith) (omega arith) (c .before .s .given) (c .next .given)),
     )
 
 cast-t26 : tie.Need-cast-t26 Inv-loop μ-loop
@@ -123,7 +123,7 @@ returns-2 c =
     let a = s .args in
     let n = l .before .before .fewer .result in
     let e : l .loop .i ≡ n = omega arith in (
-      some-reached (a .c) (160 - a .output) n _ (s .pre .3) zero-64 (omega arith) (omega arith) (omega arith),
+      some-reached (a .c) (160 - a .output) n _ (s .pre .1 .1 .1) zero-64 (omega arith) (omega arith) (omega arith),
       l .loop .inv .1 ∙ ap (λ (m : ℕ). played +1 (a .c) (now (a .samples)) (a .output) m (now (a .frame))) e,
     )
 

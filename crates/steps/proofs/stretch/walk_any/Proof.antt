@@ -35,7 +35,7 @@ sub-at c = omega arith
 loop-holds : tie.Need-loop-holds Inv-loop μ-loop
 loop-holds c =
     let a = c .before .args in
-    let q = c .before .pre .1 in
+    let q = c .before .pre .1 .1 .1 .1 in
     begun (a .rate) _ (now (a .samples)) (now (a .pairs)) (now (a .fractions)) (a .room) (length (now (a .samples)) - a .c .remaining) (a .c .fraction) (omega arith) (q .0) (q .1) refl
 
 places-requires : tie.Need-places-requires Inv-loop μ-loop

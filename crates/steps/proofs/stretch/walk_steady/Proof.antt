@@ -45,8 +45,8 @@ whole-u32-requires c κs = search needs
 loop-holds : tie.Need-loop-holds Inv-loop μ-loop
 loop-holds c =
     let a = c .before .before .args in
-    let q = c .before .before .pre .1 in
-    (begun (a .rate) _ (now (a .samples)) (now (a .pairs)) (now (a .fractions)) (a .room) (length (now (a .samples)) - a .c .remaining) (a .c .fraction) (omega arith) (q .0 .0) (q .0 .1) refl, q .1 .0)
+    let q = c .before .before .pre .1 .1 .1 .1 in
+    (begun (a .rate) _ (now (a .samples)) (now (a .pairs)) (now (a .fractions)) (a .room) (length (now (a .samples)) - a .c .remaining) (a .c .fraction) (omega arith) (q .0) (q .1 .0) refl, q .1 .1 .0)
 
 one-from-requires : tie.Need-one-from-requires Inv-loop μ-loop
 one-from-requires c κs = search needs
@@ -59,7 +59,7 @@ steps c =
     let w = l .before in
     let a = w .before .before .args in
     let x = add binary64 (l .loop .fraction) (a .rate) in
-    stepped (l .loop .fraction) (a .rate) (w .whole-u32 .result) (c .before .one-from .result) (l .loop .inv .1) (w .before .before .pre .1 .1 .1) (w .whole-u32 .ensures)
+    stepped (l .loop .fraction) (a .rate) (w .whole-u32 .result) (c .before .one-from .result) (l .loop .inv .1) (w .before .before .pre .1 .1 .1 .1 .1 .1 .1) (w .whole-u32 .ensures)
     (c .before .one-from .ensures ∙ ap (λ (y : Float). cond (lt x (add binary64 (w .whole-u32 .result) y)) +0 +1) one-64)
     (ap (λ (y : Float). lt (sub binary64 x (add binary64 (w .whole-u32 .result) (c .before .one-from .result))) y) (sym one-64) ∙ not-false (lt (sub binary64 x (add binary64 (w .whole-u32 .result) (c .before .one-from .result))) (ofBits binary64 0x3ff0_0000_0000_0000)) (c .if1 .left))
 
