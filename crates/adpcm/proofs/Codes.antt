@@ -1,5 +1,5 @@
--- Laws of the coding by the index and by the frame: which nibble stands where, and that codes taken in two runs decode as in one. By induction on the
--- lists. Assumes nothing.
+-- Laws of the coding by the index and by the frame: which nibble stands where, and that codes taken in two runs decode as in one. By
+-- induction on the lists. Assumes nothing.
 use mathlib.Core.Path.{_≡_, refl, sym, ap, _∙_}
 use mathlib.Core.List.{List, [], _∷_, _++_, append-nil}
 use mathlib.Core.Logic.{⊎-elim}
@@ -12,7 +12,8 @@ use lib.ListN.{length, take, drop, getD, length-append, length-drop, length-map}
 use lib.Seq.{length-take-le, take-all, take-append-le, take-append-add, getD-drop}
 use Rattle.lists.proofs.Walk.{below-or}
 use Rattle.adpcm.specs.declared.History.{History}
-use Rattle.adpcm.specs.Code.{Code, firstNibble, secondNibble, nibbles, codesBy, frameCodes, codesOf, framesOf, after, samplesOf, historyAfter, decodedSamples, decodedHistory}
+use Rattle.adpcm.specs.Code.{Code, firstNibble, secondNibble, nibbles, codesBy, frameCodes, codesOf, framesOf, after, samplesOf}
+use Rattle.adpcm.specs.Code.{historyAfter, decodedSamples, decodedHistory}
 
 -- ---- nibbles
 
@@ -45,10 +46,12 @@ nibble-odd (b ∷ bytes) i (suc k) e h =
 -- the same of a frame, whose first byte is the header
 module _ (frame : List ℕ) (i : ℕ) (e : length frame ≡ 8) (h : i < 14) where
   pub frame-even : i % 2 ≡ 0 → getD (nibbles (drop 1 frame)) i 0 ≡ firstNibble (getD frame (1 + i / 2) 0)
-  frame-even z = nibble-even (drop 1 frame) i (i / 2) (omega arith) (simp length-drop (omega arith)) ∙ ap firstNibble (getD-drop 1 frame (i / 2) 0)
+  frame-even z =
+      nibble-even (drop 1 frame) i (i / 2) (omega arith) (simp length-drop (omega arith)) ∙ ap firstNibble (getD-drop 1 frame (i / 2) 0)
 
   pub frame-odd : (i % 2 ≡ 0 → ⊥) → getD (nibbles (drop 1 frame)) i 0 ≡ secondNibble (getD frame (1 + i / 2) 0)
-  frame-odd z = nibble-odd (drop 1 frame) i (i / 2) (omega arith) (simp length-drop (omega arith)) ∙ ap secondNibble (getD-drop 1 frame (i / 2) 0)
+  frame-odd z =
+      nibble-odd (drop 1 frame) i (i / 2) (omega arith) (simp length-drop (omega arith)) ∙ ap secondNibble (getD-drop 1 frame (i / 2) 0)
 
 -- ---- codes
 
@@ -66,7 +69,8 @@ pub codes-long : (f : ℕ) (cs : List ℤ) (bytes : List ℕ) → f * 8 ≤ leng
 codes-long zero cs bytes h = refl
 codes-long (suc f) cs bytes h =
     length-append (frameCodes cs (take 8 bytes)) (codesOf f cs (drop 8 bytes))
-    ∙ (λ i. frame-long cs (take 8 bytes) (length-take-le 8 bytes (omega arith)) i + codes-long f cs (drop 8 bytes) (simp length-drop (omega arith)) i)
+    ∙ (λ i. frame-long cs (take 8 bytes) (length-take-le 8 bytes (omega arith)) i + codes-long f cs (drop 8 bytes)
+    (simp length-drop (omega arith)) i)
     ∙ more f
   where
     more : (f : ℕ) → 14 + f * 14 ≡ suc f * 14
@@ -102,11 +106,14 @@ module _ (sample : History → Code → ℤ) where
   length-samples h [] = refl
   length-samples h (c ∷ codes) = ap suc (length-samples (after sample h c) codes)
 
-  pub samples-append : (h : History) (xs ys : List Code) → samplesOf sample h (xs ++ ys) ≡ samplesOf sample h xs ++ samplesOf sample (historyAfter sample h xs) ys
+  pub samples-append :
+      (h : History) (xs ys : List Code)
+      → samplesOf sample h (xs ++ ys) ≡ samplesOf sample h xs ++ samplesOf sample (historyAfter sample h xs) ys
   samples-append h [] ys = refl
   samples-append h (x ∷ xs) ys = ap (λ (l : List ℤ). sample h x ∷ l) (samples-append (after sample h x) xs ys)
 
-  pub history-append : (h : History) (xs ys : List Code) → historyAfter sample h (xs ++ ys) ≡ historyAfter sample (historyAfter sample h xs) ys
+  pub history-append :
+      (h : History) (xs ys : List Code) → historyAfter sample h (xs ++ ys) ≡ historyAfter sample (historyAfter sample h xs) ys
   history-append h [] ys = refl
   history-append h (x ∷ xs) ys = history-append (after sample h x) xs ys
 
@@ -129,10 +136,13 @@ module _ (sample : History → Code → ℤ) where
 
   -- a frame comes off the front of a decode
   module _ (cs : List ℤ) (h : History) (bytes : List ℕ) (m : ℕ) (k : 0 < m) (l : 8 ≤ length bytes) where
-    first : take m (codesOf (framesOf m) cs bytes) ≡ take (min 14 m) (frameCodes cs (take 8 bytes)) ++ take (m - 14) (codesOf (framesOf (m - 14)) cs (drop 8 bytes))
+    first :
+        take m (codesOf (framesOf m) cs bytes) ≡ take (min 14 m) (frameCodes cs (take 8 bytes)) ++ take (m - 14)
+        (codesOf (framesOf (m - 14)) cs (drop 8 bytes))
     first =
         ap (λ (f : ℕ). take m (codesOf f cs bytes)) one-more
-        ∙ take-over (frameCodes cs (take 8 bytes)) (codesOf (framesOf (m - 14)) cs (drop 8 bytes)) m (frame-long cs (take 8 bytes) (length-take-le 8 bytes l))
+        ∙ take-over (frameCodes cs (take 8 bytes)) (codesOf (framesOf (m - 14)) cs (drop 8 bytes)) m
+        (frame-long cs (take 8 bytes) (length-take-le 8 bytes l))
       where
         one-more : framesOf m ≡ suc (framesOf (m - 14))
         one-more = omega arith
@@ -140,14 +150,20 @@ module _ (sample : History → Code → ℤ) where
     pub samples-off : decodedSamples sample cs h bytes m
         ≡ samplesOf sample h (take (min 14 m) (frameCodes cs (take 8 bytes)))
         ++ decodedSamples sample cs (historyAfter sample h (take (min 14 m) (frameCodes cs (take 8 bytes)))) (drop 8 bytes) (m - 14)
-    samples-off = ap (samplesOf sample h) first ∙ samples-append h (take (min 14 m) (frameCodes cs (take 8 bytes))) (take (m - 14) (codesOf (framesOf (m - 14)) cs (drop 8 bytes)))
+    samples-off =
+        ap (samplesOf sample h) first ∙ samples-append h (take (min 14 m) (frameCodes cs (take 8 bytes)))
+        (take (m - 14) (codesOf (framesOf (m - 14)) cs (drop 8 bytes)))
 
     pub history-off : decodedHistory sample cs h bytes m
         ≡ decodedHistory sample cs (historyAfter sample h (take (min 14 m) (frameCodes cs (take 8 bytes)))) (drop 8 bytes) (m - 14)
-    history-off = ap (historyAfter sample h) first ∙ history-append h (take (min 14 m) (frameCodes cs (take 8 bytes))) (take (m - 14) (codesOf (framesOf (m - 14)) cs (drop 8 bytes)))
+    history-off =
+        ap (historyAfter sample h) first
+        ∙ history-append h (take (min 14 m) (frameCodes cs (take 8 bytes))) (take (m - 14) (codesOf (framesOf (m - 14)) cs (drop 8 bytes)))
 
   -- a decode makes as many samples as were asked for
-  pub decoded-long : (cs : List ℤ) (h : History) (bytes : List ℕ) (count : ℕ) → length bytes ≡ framesOf count * 8 → length (decodedSamples sample cs h bytes count) ≡ count
+  pub decoded-long :
+      (cs : List ℤ) (h : History) (bytes : List ℕ) (count : ℕ) → length bytes ≡ framesOf count * 8
+      → length (decodedSamples sample cs h bytes count) ≡ count
   decoded-long cs h bytes count e =
       length-samples h (take count (codesOf (framesOf count) cs bytes))
       ∙ length-take-le count (codesOf (framesOf count) cs bytes) (omega (arith, codes-long (framesOf count) cs bytes (le-of-eq (sym e))))

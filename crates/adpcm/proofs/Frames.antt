@@ -47,7 +47,8 @@ module _ (cs : List ℤ) (h : History) (bytes : List ℕ) (count : ℕ) (old : L
   -- a turn: the frame at hand was decoded into the part from `done` on
   turn : (out : List ℤ) (last : History) (at done : ℕ) → Done cs h bytes count old out last at done → done < count
       → (frame : List ℕ) → frame ≡ take 8 (drop at bytes) → (n : ℕ) → n ≡ min 14 (count - done)
-      → Done cs h bytes count old (take done out ++ (frameSamples cs last frame n ++ drop n (drop done out))) (frameHistory cs last frame n) (at + 8) (done + n)
+      → Done cs h bytes count old (take done out ++ (frameSamples cs last frame n ++ drop n (drop done out))) (frameHistory cs last frame n)
+      (at + 8) (done + n)
   turn out last at done d k frame fe n ne = record {
     made = d .made ++ frameSamples cs last frame n;
     out-is =
@@ -58,8 +59,10 @@ module _ (cs : List ℤ) (h : History) (bytes : List ℕ) (count : ℕ) (old : L
     reach = omega (arith, d .reach);
     left = omega (arith, d .left, d .reach);
     whole =
-        d .whole ∙ ap (λ (r : List ℤ). d .made ++ r) (samples-off sampleOf cs last (drop at bytes) (count - done) (omega arith) eight-left ∙ rest-samples)
-        ∙ sym (append-assoc (d .made) (frameSamples cs last frame n) (decodedSamples sampleOf cs (frameHistory cs last frame n) (drop (at + 8) bytes) (count - (done + n))));
+        d .whole ∙ ap (λ (r : List ℤ). d .made ++ r)
+        (samples-off sampleOf cs last (drop at bytes) (count - done) (omega arith) eight-left ∙ rest-samples)
+        ∙ sym (append-assoc (d .made) (frameSamples cs last frame n)
+        (decodedSamples sampleOf cs (frameHistory cs last frame n) (drop (at + 8) bytes) (count - (done + n))));
     history = d .history ∙ history-off sampleOf cs last (drop at bytes) (count - done) (omega arith) eight-left ∙ rest-history;
   }
     where
@@ -76,16 +79,25 @@ module _ (cs : List ℤ) (h : History) (bytes : List ℕ) (count : ℕ) (old : L
       eight = ap length fe ∙ length-take-le 8 (drop at bytes) eight-left
 
       frame-made : length (frameSamples cs last frame n) ≡ n
-      frame-made = length-samples sampleOf last (take n (frameCodes cs frame)) ∙ taken-long (frameCodes cs frame) n (frame-long cs frame eight) (omega arith)
+      frame-made =
+          length-samples sampleOf last (take n (frameCodes cs frame))
+          ∙ taken-long (frameCodes cs frame) n (frame-long cs frame eight) (omega arith)
 
       off : count - done - 14 ≡ count - (done + n)
       off = omega arith
 
-      rest-samples : frameSamples cs last (take 8 (drop at bytes)) (min 14 (count - done)) ++ decodedSamples sampleOf cs (frameHistory cs last (take 8 (drop at bytes)) (min 14 (count - done))) (drop 8 (drop at bytes)) (count - done - 14)
-          ≡ frameSamples cs last frame n ++ decodedSamples sampleOf cs (frameHistory cs last frame n) (drop (at + 8) bytes) (count - (done + n))
-      rest-samples = λ j. frameSamples cs last (sym fe j) (sym ne j) ++ decodedSamples sampleOf cs (frameHistory cs last (sym fe j) (sym ne j)) (drop-drop 8 at bytes j) (off j)
+      rest-samples :
+          frameSamples cs last (take 8 (drop at bytes)) (min 14 (count - done)) ++ decodedSamples sampleOf cs
+          (frameHistory cs last (take 8 (drop at bytes)) (min 14 (count - done))) (drop 8 (drop at bytes)) (count - done - 14)
+          ≡ frameSamples cs last frame n ++ decodedSamples sampleOf cs (frameHistory cs last frame n) (drop (at + 8) bytes)
+          (count - (done + n))
+      rest-samples =
+          λ j. frameSamples cs last (sym fe j) (sym ne j) ++ decodedSamples sampleOf cs (frameHistory cs last (sym fe j) (sym ne j))
+          (drop-drop 8 at bytes j) (off j)
 
-      rest-history : decodedHistory sampleOf cs (frameHistory cs last (take 8 (drop at bytes)) (min 14 (count - done))) (drop 8 (drop at bytes)) (count - done - 14)
+      rest-history :
+          decodedHistory sampleOf cs (frameHistory cs last (take 8 (drop at bytes)) (min 14 (count - done))) (drop 8 (drop at bytes))
+          (count - done - 14)
           ≡ decodedHistory sampleOf cs (frameHistory cs last frame n) (drop (at + 8) bytes) (count - (done + n))
       rest-history = λ j. decodedHistory sampleOf cs (frameHistory cs last (sym fe j) (sym ne j)) (drop-drop 8 at bytes j) (off j)
 
@@ -101,7 +113,9 @@ module _ (cs : List ℤ) (h : History) (bytes : List ℕ) (count : ℕ) (old : L
       (λ j. take done out ++ (sym (ye ∙ ap (frameSamples cs last frame) pe) j ++ drop (sym ke j) (drop done out)))
       (turn out last at done d l frame fe n ne))
 
-  pub done-length : (out : List ℤ) (last : History) (at done : ℕ) → Done cs h bytes count old out last at done → count ≤ length old → length out ≡ length old
+  pub done-length :
+      (out : List ℤ) (last : History) (at done : ℕ) → Done cs h bytes count old out last at done → count ≤ length old
+      → length out ≡ length old
   done-length out last at done d k =
       ap length (d .out-is) ∙ length-append (d .made) (drop done old) ∙ simp length-drop (omega (arith, d .long, d .reach))
 
@@ -109,7 +123,8 @@ module _ (cs : List ℤ) (h : History) (bytes : List ℕ) (count : ℕ) (old : L
   pub finish : (out : List ℤ) (last : History) (at done : ℕ) → Done cs h bytes count old out last at done → count ≤ done
       → (out ≡ decodedSamples sampleOf cs h bytes count ++ drop count old) × (last ≡ decodedHistory sampleOf cs h bytes count)
   finish out last at done d k = (
-    d .out-is ∙ (λ j. (sym (append-nil (d .made)) ∙ sym (d .whole ∙ ap (λ (m : ℕ). d .made ++ decodedSamples sampleOf cs last (drop at bytes) m) none)) j ++ drop (all j) old),
+    d .out-is ∙ (λ j. (sym (append-nil (d .made))
+        ∙ sym (d .whole ∙ ap (λ (m : ℕ). d .made ++ decodedSamples sampleOf cs last (drop at bytes) m) none)) j ++ drop (all j) old),
     sym (d .history ∙ ap (decodedHistory sampleOf cs last (drop at bytes)) none),
   )
     where

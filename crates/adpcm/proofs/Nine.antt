@@ -1,4 +1,5 @@
--- The decoder answers 9 exactly if document 01's sentence of it holds: each test of the definition is one part of the sentence. Assumes nothing.
+-- The decoder answers 9 exactly if document 01's sentence of it holds: each test of the definition is one part of the sentence. Assumes
+-- nothing.
 use mathlib.Core.Path.{_≡_, sym, ap, _∙_}
 use mathlib.Core.Bool.{true, false}
 use mathlib.Core.List.{List}

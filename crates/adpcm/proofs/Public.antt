@@ -1,5 +1,6 @@
--- Document 01's decode is the public description's wherever every sum fits 32 signed bits and no header has bit 7 set: the code at each index is the
--- one that the description reads there, a sum that fits wraps to itself, and so the samples are equal one after the other. Assumes nothing.
+-- Document 01's decode is the public description's wherever every sum fits 32 signed bits and no header has bit 7 set: the code at each
+-- index is the one that the description reads there, a sum that fits wraps to itself, and so the samples are equal one after the other.
+-- Assumes nothing.
 use mathlib.Core.Path.{_≡_, refl, sym, ap, _∙_}
 use mathlib.Core.Bool.{Bool, true, false, cond}
 use mathlib.Core.List.{List, _++_}
@@ -24,7 +25,8 @@ use Rattle.numbers.proofs.Ranges.{wrap-self}
 use Rattle.adpcm.specs.declared.History.{History}
 use Rattle.adpcm.specs.Code.{Code, code, nibbles, frameCodes, codesOf, framesOf, signedNibble, sumOf, after, samplesOf, historyAfter}
 use Rattle.adpcm.specs.Adpcm.{sampleOf, scaledDown}
-use Rattle.adpcm.specs.Public.{header, exponent, predictor, nibble, signed, publicSum, floor, clamp, publicSample, publicHistory, publicSamples}
+use Rattle.adpcm.specs.Public.{header, exponent, predictor, nibble, signed, publicSum, floor, clamp, publicSample, publicHistory}
+use Rattle.adpcm.specs.Public.{publicSamples}
 use Rattle.adpcm.specs.Agreement.{Fits32, AgreesWithPublished}
 use Rattle.adpcm.proofs.Codes.{frame-even, frame-odd, frame-long, codes-long, length-samples, sample-at, history-suc}
 
@@ -74,7 +76,8 @@ fits (negsuc n) f = record { sfits = omega (arith, leb→le n _ (f .0 .le)) }
 -- the code that the description reads for sample n, with the predictor as document 01 takes it
 abbrev read : List ℤ → List ℕ → ℕ → Code
 read cs bytes n =
-    code (header bytes n % 16) (getD cs (header bytes n / 16 % 8 * 2) (pos 0)) (getD cs (header bytes n / 16 % 8 * 2 + 1) (pos 0)) (nibble bytes n)
+    code (header bytes n % 16) (getD cs (header bytes n / 16 % 8 * 2) (pos 0)) (getD cs (header bytes n / 16 % 8 * 2 + 1) (pos 0))
+    (nibble bytes n)
 
 -- in the first frame
 module _ (cs : List ℤ) (bytes : List ℕ) (n : ℕ) (h : n < 14) (l : 8 ≤ length bytes) where
@@ -95,7 +98,8 @@ module _ (cs : List ℤ) (bytes : List ℕ) (n : ℕ) (h : n < 14) (l : 8 ≤ le
 
   nibble-is : getD (nibbles (drop 1 (take 8 bytes))) n 0 ≡ nibble bytes n
   nibble-is = elim (ℕ-discrete (n % 2) 0) [
-    | yes z ↦ frame-even (take 8 bytes) n eight h z ∙ ap (λ (b : ℕ). b / 16) byte-is ∙ sym (cond-yes _ _ (eq-eqb (n % 14 % 2) 0 (omega arith)))
+    | yes z ↦ frame-even (take 8 bytes) n eight h z ∙ ap (λ (b : ℕ). b / 16) byte-is
+        ∙ sym (cond-yes _ _ (eq-eqb (n % 14 % 2) 0 (omega arith)))
     | no z ↦ frame-odd (take 8 bytes) n eight h z ∙ ap (λ (b : ℕ). b % 16) byte-is ∙ sym (cond-no _ _ (ne-eqb (n % 14 % 2) 0 (omega arith)))
   ]
 
@@ -103,12 +107,14 @@ module _ (cs : List ℤ) (bytes : List ℕ) (n : ℕ) (h : n < 14) (l : 8 ≤ le
   first-read d =
       getD-any (frameCodes cs (take 8 bytes)) n d _ (omega (arith, frame-long cs (take 8 bytes) eight))
       ∙ List·getD-map _ (nibbles (drop 1 (take 8 bytes))) n 0
-      ∙ (λ i. code (header-is i % 16) (getD cs (header-is i / 16 % 8 * 2) (pos 0)) (getD cs (header-is i / 16 % 8 * 2 + 1) (pos 0)) (nibble-is i))
+      ∙ (λ i. code (header-is i % 16) (getD cs (header-is i / 16 % 8 * 2) (pos 0)) (getD cs (header-is i / 16 % 8 * 2 + 1) (pos 0))
+      (nibble-is i))
 
 -- a frame further on
 moved : (cs : List ℤ) (bytes : List ℕ) (n : ℕ) → 14 ≤ n → read cs (drop 8 bytes) (n - 14) ≡ read cs bytes n
 moved cs bytes n h =
-    λ i. code (head i % 16) (getD cs (head i / 16 % 8 * 2) (pos 0)) (getD cs (head i / 16 % 8 * 2 + 1) (pos 0)) (cond (eqb (half i) 0) (byte i / 16) (byte i % 16))
+    λ i. code (head i % 16) (getD cs (head i / 16 % 8 * 2) (pos 0)) (getD cs (head i / 16 % 8 * 2 + 1) (pos 0))
+    (cond (eqb (half i) 0) (byte i / 16) (byte i % 16))
   where
     head : header (drop 8 bytes) (n - 14) ≡ header bytes n
     head = getD-drop 8 bytes (8 * ((n - 14) / 14)) 0 ∙ ap (λ (k : ℕ). getD bytes k 0) place
@@ -125,7 +131,9 @@ moved cs bytes n h =
         place : 8 + (8 * ((n - 14) / 14) + 1 + (n - 14) % 14 / 2) ≡ 8 * (n / 14) + 1 + n % 14 / 2
         place = omega arith
 
-code-at : (f : ℕ) (cs : List ℤ) (bytes : List ℕ) (n : ℕ) (d : Code) → f * 8 ≤ length bytes → n < f * 14 → getD (codesOf f cs bytes) n d ≡ read cs bytes n
+code-at :
+    (f : ℕ) (cs : List ℤ) (bytes : List ℕ) (n : ℕ) (d : Code) → f * 8 ≤ length bytes → n < f * 14
+    → getD (codesOf f cs bytes) n d ≡ read cs bytes n
 code-at zero cs bytes n d l h = absurd (omega arith)
 code-at (suc f) cs bytes n d l h =
     ⊎-elim first (λ k. later k (code-at f cs (drop 8 bytes) (n - 14) d (simp length-drop (omega arith)) (omega arith))) (below-or n 14)
@@ -137,7 +145,9 @@ code-at (suc f) cs bytes n d l h =
     long = frame-long cs (take 8 bytes) (length-take-le 8 bytes eight-or-more)
 
     first : n < 14 → getD (frameCodes cs (take 8 bytes) ++ codesOf f cs (drop 8 bytes)) n d ≡ read cs bytes n
-    first k = List·getD-append (frameCodes cs (take 8 bytes)) (codesOf f cs (drop 8 bytes)) d n (omega (arith, long)) ∙ first-read cs bytes n k eight-or-more d
+    first k =
+        List·getD-append (frameCodes cs (take 8 bytes)) (codesOf f cs (drop 8 bytes)) d n (omega (arith, long))
+        ∙ first-read cs bytes n k eight-or-more d
 
     later : 14 ≤ n → getD (codesOf f cs (drop 8 bytes)) (n - 14) d ≡ read cs (drop 8 bytes) (n - 14)
         → getD (frameCodes cs (take 8 bytes) ++ codesOf f cs (drop 8 bytes)) n d ≡ read cs bytes n
@@ -159,7 +169,8 @@ nibble-small bytes n small = go (eqb (n % 14 % 2) 0) (getD bytes (8 * (n / 14) +
     go true b h = omega arith
     go false b h = omega arith
 
-module _ (cs : List ℤ) (bytes : List ℕ) (before : History) (n : ℕ) (small : (i : ℕ) → getD bytes i 0 < 256) (clear : header bytes n < 128) where
+module _ (cs : List ℤ) (bytes : List ℕ) (before : History) (n : ℕ) (small : (i : ℕ) → getD bytes i 0 < 256)
+    (clear : header bytes n < 128) where
   sum-is : sumOf before (read cs bytes n) ≡ publicSum cs bytes before n
   unfolding sumOf publicSum
   sum-is =
@@ -171,9 +182,12 @@ module _ (cs : List ℤ) (bytes : List ℕ) (before : History) (n : ℕ) (small 
 
   same-sample : Fits32 (publicSum cs bytes before n) → sampleOf before (read cs bytes n) ≡ publicSample cs bytes before n
   unfolding sampleOf publicSample
-  same-sample f = ap scaledDown (ap wrap32 sum-is ∙ wrap-self (publicSum cs bytes before n) (fits (publicSum cs bytes before n) f)) ∙ scaled-is (publicSum cs bytes before n)
+  same-sample f =
+      ap scaledDown (ap wrap32 sum-is ∙ wrap-self (publicSum cs bytes before n) (fits (publicSum cs bytes before n) f))
+      ∙ scaled-is (publicSum cs bytes before n)
 
-module _ (cs : List ℤ) (h : History) (bytes : List ℕ) (count : ℕ) (small : (i : ℕ) → getD bytes i 0 < 256) (whole : framesOf count * 8 ≤ length bytes)
+module _ (cs : List ℤ) (h : History) (bytes : List ℕ) (count : ℕ) (small : (i : ℕ) → getD bytes i 0 < 256)
+    (whole : framesOf count * 8 ≤ length bytes)
     (clear : (n : ℕ) → n < count → header bytes n < 128)
     (fit : (n : ℕ) → n < count → Fits32 (publicSum cs bytes (publicHistory cs h bytes n) n)) where
   abbrev codes : List Code

@@ -10,5 +10,20 @@ use Rattle.cases.specs.Starred.{StarredCasesHold}
 pub starred-cases-hold : StarredCasesHold
 unfolding sampleOf sumOf publicSample publicSum interpolate ofInt add sub mul toSigned
 starred-cases-hold = record {
-  holds = (refl, (refl, (refl, (refl, (refl, (refl, ((refl, refl), ((refl, refl), ((refl, refl), ((refl, refl), (refl, (refl, (refl, tt)))))))))))));
+  holds = (
+    refl,
+    (
+      refl,
+      (
+        refl,
+        (
+          refl,
+          (
+            refl,
+            (refl, ((refl, refl), ((refl, refl), ((refl, refl), ((refl, refl), (refl, (refl, (refl, tt)))))))),
+          ),
+        ),
+      ),
+    ),
+  );
 }

@@ -1,5 +1,5 @@
--- The tables of fields add up to document 01's sizes, each name stands once, and what is counted off inside a field stays inside it: all computed.
--- Assumes nothing.
+-- The tables of fields add up to document 01's sizes, each name stands once, and what is counted off inside a field stays inside it: all
+-- computed. Assumes nothing.
 use mathlib.Core.Path.{refl}
 use native.Mathlib.Omega.{arith}
 use Rattle.fields.specs.Tables.{Tables}

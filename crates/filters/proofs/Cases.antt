@@ -26,12 +26,16 @@ pub simple-wraps : simpleValue 0 (simple (negsuc 32767) (pos 32768) (pos 32768 �
 unfolding simpleValue simpleSum
 simple-wraps = refl
 
-pub biquad-wraps : biquadValue 0 (biquad (negsuc 32767 ∷ negsuc 32767 ∷ pos 0 ∷ []) (pos 0 ∷ pos 0 ∷ []) (negsuc 32767 ∷ pos 0 ∷ pos 0 ∷ pos 0 ∷ []) zeros) (negsuc 32767) ≡ negsuc 32767
+pub biquad-wraps :
+    biquadValue 0 (biquad (negsuc 32767 ∷ negsuc 32767 ∷ pos 0 ∷ []) (pos 0 ∷ pos 0 ∷ []) (negsuc 32767 ∷ pos 0 ∷ pos 0 ∷ pos 0 ∷ []) zeros)
+    (negsuc 32767) ≡ negsuc 32767
 unfolding biquadValue biquadSum
 biquad-wraps = refl
 
 -- the simple filter halves and the biquad one doubles: 1 is 0 and then 0, where the other order would give 2 and then 1
-pub simple-first : pass 0 (on (simple (pos 16384) (pos 0) (pos 0 ∷ pos 0 ∷ [])) (biquad (pos 32768 ∷ pos 0 ∷ pos 0 ∷ []) (pos 0 ∷ pos 0 ∷ []) zeros zeros)) (pos 1) .value ≡ pos 0
+pub simple-first :
+    pass 0 (on (simple (pos 16384) (pos 0) (pos 0 ∷ pos 0 ∷ [])) (biquad (pos 32768 ∷ pos 0 ∷ pos 0 ∷ []) (pos 0 ∷ pos 0 ∷ []) zeros zeros))
+    (pos 1) .value ≡ pos 0
 unfolding pass passSimple passBiquad simpleValue simpleSum biquadValue biquadSum
 simple-first = refl
 
@@ -42,14 +46,17 @@ samples = pos 1000 ∷ negsuc 999 ∷ pos 2000 ∷ pos 30000 ∷ negsuc 32767 �
 abbrev before : Filters
 before =
     on (simple (pos 16384) (negsuc 8191) (pos 5 ∷ negsuc 6 ∷ []))
-    (biquad (pos 8192 ∷ pos 4096 ∷ negsuc 2047 ∷ []) (pos 1000 ∷ negsuc 2999 ∷ []) (pos 1 ∷ pos 2 ∷ pos 3 ∷ pos 4 ∷ []) (pos 5 ∷ pos 6 ∷ pos 7 ∷ pos 8 ∷ []))
+    (biquad (pos 8192 ∷ pos 4096 ∷ negsuc 2047 ∷ []) (pos 1000 ∷ negsuc 2999 ∷ []) (pos 1 ∷ pos 2 ∷ pos 3 ∷ pos 4 ∷ [])
+    (pos 5 ∷ pos 6 ∷ pos 7 ∷ pos 8 ∷ []))
 
 abbrev after : Filters
 after =
     on (simple (pos 16384) (negsuc 8191) (pos 4156 ∷ negsuc 3150 ∷ []))
-    (biquad (pos 8192 ∷ pos 4096 ∷ negsuc 2047 ∷ []) (pos 1000 ∷ negsuc 2999 ∷ []) (pos 4156 ∷ negsuc 3150 ∷ negsuc 16602 ∷ pos 12602 ∷ []) (negsuc 2785 ∷ negsuc 1024 ∷ negsuc 8155 ∷ pos 10643 ∷ []))
+    (biquad (pos 8192 ∷ pos 4096 ∷ negsuc 2047 ∷ []) (pos 1000 ∷ negsuc 2999 ∷ []) (pos 4156 ∷ negsuc 3150 ∷ negsuc 16602 ∷ pos 12602 ∷ [])
+    (negsuc 2785 ∷ negsuc 1024 ∷ negsuc 8155 ∷ pos 10643 ∷ []))
 
-pub both-samples : passedFrom 0 before samples ≡ pos 247 ∷ negsuc 250 ∷ pos 576 ∷ pos 7420 ∷ negsuc 8155 ∷ pos 10643 ∷ negsuc 2785 ∷ negsuc 1024 ∷ []
+pub both-samples :
+    passedFrom 0 before samples ≡ pos 247 ∷ negsuc 250 ∷ pos 576 ∷ pos 7420 ∷ negsuc 8155 ∷ pos 10643 ∷ negsuc 2785 ∷ negsuc 1024 ∷ []
 unfolding pass passSimple passBiquad simpleValue simpleSum biquadValue biquadSum
 both-samples = refl
 

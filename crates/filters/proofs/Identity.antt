@@ -1,4 +1,5 @@
--- "Defaults are identities": filters of the default coefficients, whatever their marks and their state, give the samples themselves. Assumes nothing.
+-- "Defaults are identities": filters of the default coefficients, whatever their marks and their state, give the samples themselves.
+-- Assumes nothing.
 use mathlib.Core.Path.{_≡_, refl, sym, ap, _∙_, subst}
 use mathlib.Core.Bool.{Bool, true, false}
 use mathlib.Core.List.{List, [], _∷_}
@@ -55,7 +56,8 @@ module _ (k : ℕ) (h : k < 32768) where
   scaled (negsuc n) f =
       ap (λ (z : ℤ). clamp16 (shrZ (wrap32 z) (suc k))) (minus (suc k * suc n) (suc k * n + k) (mul-suc (suc k) n ∙ one-less (suc k * n)))
       ∙ ap (λ (z : ℤ). clamp16 (shrZ z (suc k))) (wrap-self (negsuc (suc k * n + k)) (record { sfits = small (most n (f .sfits)) }))
-      ∙ ap (λ (q : ℕ). clamp16 (negsuc q)) (mul-add-div {m = suc k} (omega arith) n k ∙ ap (λ (q : ℕ). n + q) (div-eq-of-lt {n = k} {m = suc k} (omega arith)) ∙ none)
+      ∙ ap (λ (q : ℕ). clamp16 (negsuc q))
+      (mul-add-div {m = suc k} (omega arith) n k ∙ ap (λ (q : ℕ). n + q) (div-eq-of-lt {n = k} {m = suc k} (omega arith)) ∙ none)
       ∙ clamp-self (negsuc n) f
     where
       one-less : (p : ℕ) → p + suc k ≡ suc (p + k)
@@ -73,13 +75,16 @@ module _ (k : ℕ) (h : k < 32768) where
 no-more : (s y : ℤ) → s +ℤ pos 0 *ℤ y ≡ s
 no-more s y = ap (λ (z : ℤ). s +ℤ z) (zero-*ℤ y) ∙ +ℤ-idr s
 
-pub simple-identity : (channel : ℕ) (f : SimpleFilter) (x : ℤ) → f .b0 ≡ pos 32768 → f .a1 ≡ pos 0 → SFits w16 x → simpleValue channel f x ≡ x
+pub simple-identity :
+    (channel : ℕ) (f : SimpleFilter) (x : ℤ) → f .b0 ≡ pos 32768 → f .a1 ≡ pos 0 → SFits w16 x → simpleValue channel f x ≡ x
 unfolding simpleValue simpleSum
 simple-identity channel f x b a h =
-    ap (λ (z : ℤ). clamp16 (shrZ (wrap32 z) 32768)) ((λ i. b i *ℤ x +ℤ a i *ℤ getD (f .y1) channel (pos 0)) ∙ no-more (pos 32768 *ℤ x) (getD (f .y1) channel (pos 0)))
+    ap (λ (z : ℤ). clamp16 (shrZ (wrap32 z) 32768))
+    ((λ i. b i *ℤ x +ℤ a i *ℤ getD (f .y1) channel (pos 0)) ∙ no-more (pos 32768 *ℤ x) (getD (f .y1) channel (pos 0)))
     ∙ scaled 32767 (omega arith) x h
 
-pub biquad-identity : (channel : ℕ) (f : BiquadFilter) (x : ℤ) → f .b ≡ defaultBiquad .b → f .a ≡ defaultBiquad .a → SFits w16 x → biquadValue channel f x ≡ x
+pub biquad-identity :
+    (channel : ℕ) (f : BiquadFilter) (x : ℤ) → f .b ≡ defaultBiquad .b → f .a ≡ defaultBiquad .a → SFits w16 x → biquadValue channel f x ≡ x
 unfolding biquadValue biquadSum
 biquad-identity channel f x b a h =
     let x1 = getD (f .x) channel (pos 0) in
@@ -88,7 +93,8 @@ biquad-identity channel f x b a h =
     let y2 = getD (f .y) (channel + 2) (pos 0) in
     let s = pos 16384 *ℤ x in
     ap (λ (z : ℤ). clamp16 (shrZ (wrap32 z) 16384))
-    ((λ i. getD (b i) 0 (pos 0) *ℤ x +ℤ getD (b i) 1 (pos 0) *ℤ x1 +ℤ getD (b i) 2 (pos 0) *ℤ x2 +ℤ getD (a i) 0 (pos 0) *ℤ y1 +ℤ getD (a i) 1 (pos 0) *ℤ y2)
+    ((λ i. getD (b i) 0 (pos 0) *ℤ x +ℤ getD (b i) 1 (pos 0) *ℤ x1 +ℤ getD (b i) 2 (pos 0) *ℤ x2 +ℤ getD (a i) 0 (pos 0) *ℤ y1 +ℤ getD
+    (a i) 1 (pos 0) *ℤ y2)
     ∙ no-more (s +ℤ pos 0 *ℤ x1 +ℤ pos 0 *ℤ x2 +ℤ pos 0 *ℤ y1) y2
     ∙ no-more (s +ℤ pos 0 *ℤ x1 +ℤ pos 0 *ℤ x2) y1
     ∙ no-more (s +ℤ pos 0 *ℤ x1) x2
@@ -102,14 +108,18 @@ record Same (x : ℤ) (p : Passed) : Type 0 where
   filters : Default (p .filters)
 
 module _ (channel : ℕ) (x : ℤ) (h : SFits w16 x) where
-  by-simple : (s : Bool) (f : SimpleFilter) (b : Bool) (g : BiquadFilter) → Default (the s f b g) → Same x (passSimple channel (the s f b g) x)
+  by-simple :
+      (s : Bool) (f : SimpleFilter) (b : Bool) (g : BiquadFilter) → Default (the s f b g) → Same x (passSimple channel (the s f b g) x)
   unfolding passSimple
-  by-simple true f b g d = record { value = simple-identity channel f x (d .b0) (d .a1) h; filters = record { b0 = d .b0; a1 = d .a1; b = d .b; a = d .a } }
+  by-simple true f b g d =
+      record { value = simple-identity channel f x (d .b0) (d .a1) h; filters = record { b0 = d .b0; a1 = d .a1; b = d .b; a = d .a } }
   by-simple false f b g d = record { value = refl; filters = d }
 
-  by-biquad : (s : Bool) (f : SimpleFilter) (b : Bool) (g : BiquadFilter) → Default (the s f b g) → Same x (passBiquad channel (the s f b g) x)
+  by-biquad :
+      (s : Bool) (f : SimpleFilter) (b : Bool) (g : BiquadFilter) → Default (the s f b g) → Same x (passBiquad channel (the s f b g) x)
   unfolding passBiquad
-  by-biquad s f true g d = record { value = biquad-identity channel g x (d .b) (d .a) h; filters = record { b0 = d .b0; a1 = d .a1; b = d .b; a = d .a } }
+  by-biquad s f true g d =
+      record { value = biquad-identity channel g x (d .b) (d .a) h; filters = record { b0 = d .b0; a1 = d .a1; b = d .b; a = d .a } }
   by-biquad s f false g d = record { value = refl; filters = d }
 
   simple-same : (f : Filters) → Default f → Same x (passSimple channel f x)
@@ -122,7 +132,8 @@ pass-same : (channel : ℕ) (f : Filters) (x : ℤ) → SFits w16 x → Default 
 unfolding pass
 pass-same channel f x h d =
     let s = simple-same channel x h f d in
-    subst (λ (v : ℤ). Same x (passBiquad channel (passSimple channel f x .filters) v)) (sym (s .value)) (biquad-same channel x h (passSimple channel f x .filters) (s .filters))
+    subst (λ (v : ℤ). Same x (passBiquad channel (passSimple channel f x .filters) v)) (sym (s .value))
+    (biquad-same channel x h (passSimple channel f x .filters) (s .filters))
 
 pub defaults-are-identities : DefaultsAreIdentities
 defaults-are-identities channel f [] d fit = refl

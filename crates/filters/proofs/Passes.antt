@@ -75,10 +75,12 @@ biquad-whole f p =
     both (allInRange (f .b)) (allInRange (f .a) && (allInRange (f .x) && allInRange (f .y))) (p .b)
     (both (allInRange (f .a)) (allInRange (f .x) && allInRange (f .y)) (p .a) (both (allInRange (f .x)) (allInRange (f .y)) (p .x) (p .y)))
 
-pub simple-kept : (channel : ℕ) (f : SimpleFilter) (value : ℤ) → T (simpleInRange f) → SFits w16 value → T (simpleInRange (simpleAfter channel f value))
+pub simple-kept :
+    (channel : ℕ) (f : SimpleFilter) (value : ℤ) → T (simpleInRange f) → SFits w16 value → T (simpleInRange (simpleAfter channel f value))
 simple-kept channel f value t h =
     let p = simple-parts f t in
-    simple-whole (simpleAfter channel f value) (record { b0 = p .b0; a1 = p .a1; y1 = all-set (f .y1) channel value (p .y1) (sample-range value h) })
+    simple-whole (simpleAfter channel f value)
+    (record { b0 = p .b0; a1 = p .a1; y1 = all-set (f .y1) channel value (p .y1) (sample-range value h) })
 
 moved-kept : (channel : ℕ) (zs : List ℤ) (value : ℤ) → T (allInRange zs) → SFits w16 value → T (allInRange (moved channel zs value))
 moved-kept channel zs value t h =
@@ -136,25 +138,31 @@ biquad-on f e t =
     (and-right (cond (f .«has_simple») (simpleInRange (f .simple)) true) (cond (f .«has_biquad») (biquadInRange (f .biquad)) true) t)
 
 module _ (channel : ℕ) (x : ℤ) (h : SFits w16 x) where
-  by-simple : (s : Bool) (f : SimpleFilter) (b : Bool) (g : BiquadFilter) → T (filtersInRange (the s f b g)) → Kept (passSimple channel (the s f b g) x)
+  by-simple :
+      (s : Bool) (f : SimpleFilter) (b : Bool) (g : BiquadFilter) → T (filtersInRange (the s f b g))
+      → Kept (passSimple channel (the s f b g) x)
   unfolding passSimple
   by-simple true f b g t = record {
     value = simple-fits channel f x;
     filters =
         both (simpleInRange (simpleAfter channel f (simpleValue channel f x))) (cond b (biquadInRange g) true)
-        (simple-kept channel f (simpleValue channel f x) (and-left (simpleInRange f) (cond b (biquadInRange g) true) t) (simple-fits channel f x))
+        (simple-kept channel f (simpleValue channel f x) (and-left (simpleInRange f) (cond b (biquadInRange g) true) t)
+        (simple-fits channel f x))
         (and-right (simpleInRange f) (cond b (biquadInRange g) true) t);
   }
   by-simple false f b g t = record { value = h; filters = t }
 
-  by-biquad : (s : Bool) (f : SimpleFilter) (b : Bool) (g : BiquadFilter) → T (filtersInRange (the s f b g)) → Kept (passBiquad channel (the s f b g) x)
+  by-biquad :
+      (s : Bool) (f : SimpleFilter) (b : Bool) (g : BiquadFilter) → T (filtersInRange (the s f b g))
+      → Kept (passBiquad channel (the s f b g) x)
   unfolding passBiquad
   by-biquad s f true g t = record {
     value = biquad-fits channel g x;
     filters =
         both (cond s (simpleInRange f) true) (biquadInRange (biquadAfter channel g x (biquadValue channel g x)))
         (and-left (cond s (simpleInRange f) true) (biquadInRange g) t)
-        (biquad-kept channel g x (biquadValue channel g x) (and-right (cond s (simpleInRange f) true) (biquadInRange g) t) h (biquad-fits channel g x));
+        (biquad-kept channel g x (biquadValue channel g x) (and-right (cond s (simpleInRange f) true) (biquadInRange g) t) h
+        (biquad-fits channel g x));
   }
   by-biquad s f false g t = record { value = h; filters = t }
 
@@ -183,13 +191,18 @@ first-fits x samples fit = fit 0 (suc-le-suc zero-le)
 pub rest-fit : (x : ℤ) (samples : List ℤ) → AllFit (x ∷ samples) → AllFit samples
 rest-fit x samples fit i h = fit (suc i) (suc-le-suc h)
 
-pub passed-fit : (channel : ℕ) (f : Filters) (samples : List ℤ) → T (filtersInRange f) → AllFit samples → AllFit (passedFrom channel f samples)
+pub passed-fit :
+    (channel : ℕ) (f : Filters) (samples : List ℤ) → T (filtersInRange f) → AllFit samples → AllFit (passedFrom channel f samples)
 passed-fit channel f [] t fit i h = absurd (not-suc-le-zero h)
 passed-fit channel f (x ∷ samples) t fit zero h = pass-keeps channel f x (first-fits x samples fit) t .value
 passed-fit channel f (x ∷ samples) t fit (suc i) h =
-    passed-fit (1 - channel) (pass channel f x .filters) samples (pass-keeps channel f x (first-fits x samples fit) t .filters) (rest-fit x samples fit) i (le-of-suc-le-suc h)
+    passed-fit (1 - channel) (pass channel f x .filters) samples (pass-keeps channel f x (first-fits x samples fit) t .filters)
+    (rest-fit x samples fit) i (le-of-suc-le-suc h)
 
-pub after-in-range : (channel : ℕ) (f : Filters) (samples : List ℤ) → T (filtersInRange f) → AllFit samples → T (filtersInRange (filtersAfter channel f samples))
+pub after-in-range :
+    (channel : ℕ) (f : Filters) (samples : List ℤ) → T (filtersInRange f) → AllFit samples
+    → T (filtersInRange (filtersAfter channel f samples))
 after-in-range channel f [] t fit = t
 after-in-range channel f (x ∷ samples) t fit =
-    after-in-range (1 - channel) (pass channel f x .filters) samples (pass-keeps channel f x (first-fits x samples fit) t .filters) (rest-fit x samples fit)
+    after-in-range (1 - channel) (pass channel f x .filters) samples (pass-keeps channel f x (first-fits x samples fit) t .filters)
+    (rest-fit x samples fit)

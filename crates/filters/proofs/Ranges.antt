@@ -65,4 +65,5 @@ pub all-set : (zs : List ℤ) (i : ℕ) (v : ℤ) → T (allInRange zs) → T (i
 all-set [] i v t h = tt
 all-set (z ∷ zs) zero v t h = both (inRange v) (allInRange zs) h (and-right (inRange z) (allInRange zs) t)
 all-set (z ∷ zs) (suc i) v t h =
-    both (inRange z) (allInRange (set zs i v)) (and-left (inRange z) (allInRange zs) t) (all-set zs i v (and-right (inRange z) (allInRange zs) t) h)
+    both (inRange z) (allInRange (set zs i v)) (and-left (inRange z) (allInRange zs) t)
+    (all-set zs i v (and-right (inRange z) (allInRange zs) t) h)

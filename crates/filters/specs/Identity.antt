@@ -1,5 +1,5 @@
--- "Defaults are identities", as a statement. Assumes nothing: these are definitions; `defaults-are-identities` of proofs/Identity.antt proves
--- it.
+-- "Defaults are identities", as a statement. Assumes nothing: these are definitions; `defaults-are-identities` of proofs/Identity.antt
+-- proves it.
 use mathlib.Core.Path.{_≡_}
 use mathlib.Core.List.{List}
 use Prim.Native.Nat.{ℕ, _<_}

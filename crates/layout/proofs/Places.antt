@@ -1,5 +1,5 @@
--- What the tests on places mean in words of bytes, and so when each of the numbers 1, 2 and 3 is given. The tests are walked as lists; the byte
--- past the region is a place's last, and the byte that two places share is the later one's first. Assumes nothing.
+-- What the tests on places mean in words of bytes, and so when each of the numbers 1, 2 and 3 is given. The tests are walked as lists; the
+-- byte past the region is a place's last, and the byte that two places share is the later one's first. Assumes nothing.
 use mathlib.Core.Path.{_≡_, refl, sym, subst, _∙_}
 use mathlib.Core.Bool.{Bool, true, false, not, _&&_, _||_}
 use mathlib.Core.List.{List, [], _∷_}
@@ -17,7 +17,8 @@ use Rattle.lists.proofs.Splice.{Apart}
 use Rattle.lists.proofs.Walk.{below-or}
 use Rattle.layout.specs.declared.Layout.{Layout}
 use Rattle.layout.specs.declared.Place.{Place}
-use Rattle.layout.specs.Places.{place, placesOf, placeAt, end, inside, apartTwo, apartFrom, apart, regionMost, layoutRules, layoutNumber}
+use Rattle.layout.specs.Places.{place, placesOf, placeAt, end, inside, apartTwo, apartFrom, apart, regionMost, layoutRules}
+use Rattle.layout.specs.Places.{layoutNumber}
 use Rattle.layout.specs.Exactly.{Holds, LengthsWrong, EndsPast, ShareByte, Exactly, Sound}
 
 -- ---- two places
@@ -70,13 +71,16 @@ pub apart-each : (ps : List Place) → apart ps ≡ true → (i j : ℕ) → i <
 apart-each [] e i j o h = absurd (not-suc-le-zero h)
 apart-each (p ∷ ps) e i zero o h = absurd (not-suc-le-zero o)
 apart-each (p ∷ ps) e zero (suc j) o h = from-each p ps (and-both (apartFrom p ps) (apart ps) e .0) j (le-of-suc-le-suc h)
-apart-each (p ∷ ps) e (suc i) (suc j) o h = apart-each ps (and-both (apartFrom p ps) (apart ps) e .1) i j (le-of-suc-le-suc o) (le-of-suc-le-suc h)
+apart-each (p ∷ ps) e (suc i) (suc j) o h =
+    apart-each ps (and-both (apartFrom p ps) (apart ps) e .1) i j (le-of-suc-le-suc o) (le-of-suc-le-suc h)
 
 from-one : (p : Place) (ps : List Place) → apartFrom p ps ≡ false → (j : ℕ) × (j < length ps) × (apartTwo p (nth ps j) ≡ false)
 from-one p [] e = absurd (clash e)
 from-one p (q ∷ qs) e = go (holds-or (apartTwo p q)) (from-one p qs)
   where
-    go : (apartTwo p q ≡ true) ⊎ (apartTwo p q ≡ false) → (apartFrom p qs ≡ false → (j : ℕ) × (j < length qs) × (apartTwo p (nth qs j) ≡ false))
+    go :
+        (apartTwo p q ≡ true) ⊎ (apartTwo p q ≡ false)
+        → (apartFrom p qs ≡ false → (j : ℕ) × (j < length qs) × (apartTwo p (nth qs j) ≡ false))
         → (j : ℕ) × (j < suc (length qs)) × (apartTwo p (nth (q ∷ qs) j) ≡ false)
     go (inl t) more = let r = more (sym (and-yes _ t) ∙ e) in (suc (r .0), suc-le-suc (r .1), r .2)
     go (inr f) more = (0, suc-le-suc zero-le, f)
@@ -109,11 +113,15 @@ filled-each (p ∷ ps) e (suc i) h = filled-each ps (and-both (ltb 0 (p .size)) 
 lengths-say : (first second : ℕ) → ((not (eqb first second) || ltb regionMost first) ≡ true) ↔ LengthsWrong first second
 lengths-say first second = (λ e. wrong e (holds-or (eqb first second)), λ w. test w (holds-or (eqb first second)))
   where
-    wrong : (not (eqb first second) || ltb regionMost first) ≡ true → (eqb first second ≡ true) ⊎ (eqb first second ≡ false) → LengthsWrong first second
+    wrong :
+        (not (eqb first second) || ltb regionMost first) ≡ true → (eqb first second ≡ true) ⊎ (eqb first second ≡ false)
+        → LengthsWrong first second
     wrong e (inl t) = inr (inl (ltb-true regionMost first (sym (or-no _ (not-yes t)) ∙ e)))
     wrong e (inr f) = inl (λ s. clash (sym (eq-eqb first second s) ∙ f))
 
-    test : LengthsWrong first second → (eqb first second ≡ true) ⊎ (eqb first second ≡ false) → (not (eqb first second) || ltb regionMost first) ≡ true
+    test :
+        LengthsWrong first second → (eqb first second ≡ true) ⊎ (eqb first second ≡ false)
+        → (not (eqb first second) || ltb regionMost first) ≡ true
     test w (inr f) = or-yes _ (not-no f)
     test (inl n) (inl t) = absurd (n (eqb-true first second t))
     test (inr (inl h)) (inl t) = or-no _ (not-yes t) ∙ lt-ltb regionMost first h
@@ -124,7 +132,9 @@ module _ (first : ℕ) (l : Layout) where
   ends-say = (λ e. last (past-one first (placesOf l) (not-true _ e)), λ s. not-no (test s (holds-or (inside first (placesOf l)))))
     where
       last : (i : ℕ) × (i < 7) × (first < end (placeAt l i)) → EndsPast first l
-      last r = let f = filled-each (placesOf l) refl (r .0) (r .1) in (r .0, end (placeAt l (r .0)) - 1, r .1, (omega arith, omega arith), omega arith)
+      last r =
+          let f = filled-each (placesOf l) refl (r .0) (r .1) in
+          (r .0, end (placeAt l (r .0)) - 1, r .1, (omega arith, omega arith), omega arith)
 
       test : EndsPast first l → (inside first (placesOf l) ≡ true) ⊎ (inside first (placesOf l) ≡ false) → inside first (placesOf l) ≡ false
       test s (inl t) = let w = inside-each first (placesOf l) t (s .0) (s .2) in absurd (omega (arith, s .3, s .4))
@@ -140,7 +150,9 @@ shares-say l = (λ e. byte (apart-one (placesOf l) (not-true _ e)), λ s. not-no
         (r .0, r .1, k .0, r .2, r .3, k .1, k .2)
 
     test : ShareByte l → (apart (placesOf l) ≡ true) ⊎ (apart (placesOf l) ≡ false) → apart (placesOf l) ≡ false
-    test s (inl t) = absurd (none-shared (placeAt l (s .0)) (placeAt l (s .1)) (apart-each (placesOf l) t (s .0) (s .1) (s .3) (s .4)) (s .2) (s .5) (s .6))
+    test s (inl t) =
+        absurd (none-shared (placeAt l (s .0)) (placeAt l (s .1)) (apart-each (placesOf l) t (s .0) (s .1) (s .3) (s .4)) (s .2) (s .5)
+        (s .6))
     test s (inr f) = f
 
 module _ (first second : ℕ) (l : Layout) where

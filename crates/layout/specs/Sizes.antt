@@ -7,8 +7,8 @@ use Rattle.layout.specs.declared.Layout.{Layout}
 use Rattle.layout.specs.declared.Place.{Place}
 use Rattle.layout.specs.Places.{placesOf}
 
--- The places of a region hold the structures of the tables: 24 voices; 16 coefficients of 2 bytes; a counter of 2; 160 samples for 2 ears of
--- 2 bytes; 160 samples of 4 bytes for 4 channels of 2 mixes.
+-- The places of a region hold the structures of the tables: 24 voices; 16 coefficients of 2 bytes; a counter of 2; 160 samples for 2 ears
+-- of 2 bytes; 160 samples of 4 bytes for 4 channels of 2 mixes.
 abbrev pub Sizes : Type 0
 Sizes =
     (l : Layout)

@@ -1,5 +1,5 @@
--- An input cut after as many bytes as the program's buffer holds is listed as it is whole: where anything is cut off, neither is complete, since the
--- longest that is complete is one byte shorter than the buffer. Assumes nothing.
+-- An input cut after as many bytes as the program's buffer holds is listed as it is whole: where anything is cut off, neither is complete,
+-- since the longest that is complete is one byte shorter than the buffer. Assumes nothing.
 use mathlib.Core.Path.{_≡_, sym, ap, _∙_}
 use mathlib.Core.Bool.{false}
 use mathlib.Core.List.{List}

@@ -1,5 +1,5 @@
--- The laws of decimal digits and of columns: a number of ten or more has the digits of its tenth part and one more, by induction on the turns.
--- Assumes nothing.
+-- The laws of decimal digits and of columns: a number of ten or more has the digits of its tenth part and one more, by induction on the
+-- turns. Assumes nothing.
 use mathlib.Core.Path.{_≡_, refl, sym, ap, _∙_}
 use mathlib.Core.Bool.{Bool, true, false}
 use mathlib.Core.List.{List, [], _∷_, _++_}

@@ -1,5 +1,5 @@
--- The laws of text put piece after piece: two puts, the second where the first ended, are one of both texts; and the loop that puts a text a byte a
--- turn, by what is left to put. Assumes nothing.
+-- The laws of text put piece after piece: two puts, the second where the first ended, are one of both texts; and the loop that puts a text
+-- a byte a turn, by what is left to put. Assumes nothing.
 use mathlib.Core.Path.{_≡_, refl, sym, ap, _∙_, subst}
 use mathlib.Core.List.{List, _++_}
 use Prim.Native.Nat.{ℕ, _+_, _≤_, _<_}
@@ -11,7 +11,8 @@ use Rattle.lists.proofs.Splice.{splice-append, length-splice}
 use Rattle.lists.proofs.Walk.{drop-next, drop-end}
 use Rattle.listing.specs.Inner.{Put}
 
-pub put-more : {old first mid second new : List ℕ} {a b e : ℕ} → Put old a first mid b → Put mid b second new e → Put old a (first ++ second) new e
+pub put-more :
+    {old first mid second new : List ℕ} {a b e : ℕ} → Put old a first mid b → Put mid b second new e → Put old a (first ++ second) new e
 put-more {old} {first} {mid} {second} {new} {a} p q = record {
   stored = q .stored ∙ (λ j. splice (p .stored j) (p .after j) second) ∙ sym (splice-append old a first second);
   after = omega (arith, p .after, q .after, length-append first second);

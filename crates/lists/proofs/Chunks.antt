@@ -15,14 +15,16 @@ module _ {A B : Type 0} (f : A → List B) (w : ℕ) (wide : (x : A) → length 
   pub length-chunks : (xs : List A) → length (flatMap f xs) ≡ length xs * w
   unfolding flatMap
   length-chunks [] = sym (zero-mul w)
-  length-chunks (x ∷ xs) = length-append (f x) (flatMap f xs) ∙ (λ i. wide x i + length-chunks xs i) ∙ add-comm w (length xs * w) ∙ sym (suc-mul (length xs) w)
+  length-chunks (x ∷ xs) =
+      length-append (f x) (flatMap f xs) ∙ (λ i. wide x i + length-chunks xs i) ∙ add-comm w (length xs * w) ∙ sym (suc-mul (length xs) w)
 
   chunks-suc : (xs : List A) (i : ℕ) (d : A) → i < length xs → flatMap f (take (suc i) xs) ≡ flatMap f (take i xs) ++ f (getD xs i d)
   unfolding flatMap
   chunks-suc [] i d h = absurd (not-suc-le-zero h)
   chunks-suc (x ∷ xs) zero d h = append-nil (f x)
   chunks-suc (x ∷ xs) (suc i) d h =
-      ap (λ (l : List B). f x ++ l) (chunks-suc xs i d (le-of-suc-le-suc h)) ∙ sym (append-assoc (f x) (flatMap f (take i xs)) (f (getD xs i d)))
+      ap (λ (l : List B). f x ++ l) (chunks-suc xs i d (le-of-suc-le-suc h))
+      ∙ sym (append-assoc (f x) (flatMap f (take i xs)) (f (getD xs i d)))
 
   -- the first i chunks stand, the rest is as it was
   pub record Chunked (xs : List A) (old now : List B) (i : ℕ) : Type 0 where
@@ -76,19 +78,23 @@ module _ {A B : Type 0} (f : A → List B) (w : ℕ) (wide : (x : A) → length 
           ∙ ap (λ (n : ℕ). drop n old) (ap (λ (n : ℕ). i * w + n) (wide (getD xs i d)) ∙ sym (next i))
 
   -- at the loop's end
-  pub chunked-all : (xs : List A) (old now : List B) (i : ℕ) → length xs ≤ i → Chunked xs old now i → now ≡ flatMap f xs ++ drop (length xs * w) old
+  pub chunked-all :
+      (xs : List A) (old now : List B) (i : ℕ) → length xs ≤ i → Chunked xs old now i → now ≡ flatMap f xs ++ drop (length xs * w) old
   chunked-all xs old now i h c = c .stored ∙ (λ j. flatMap f (take-all i xs h j) ++ drop (all j * w) old)
     where
       all : i ≡ length xs
       all = omega (arith, c .reach)
 
   -- a turn made by a call that says what it spliced in
-  pub chunked-called : (xs : List A) (old now : List B) (i : ℕ) (last new : List B) (d : A) → length xs * w ≤ length old → i < length xs → Chunked xs old now i
+  pub chunked-called :
+      (xs : List A) (old now : List B) (i : ℕ) (last new : List B) (d : A) → length xs * w ≤ length old → i < length xs
+      → Chunked xs old now i
       → last ≡ splice now (i * w) new → new ≡ f (getD xs i d) → Chunked xs old last (i + 1)
   chunked-called xs old now i last new d fit h c e q =
       subst (λ (l : List B). Chunked xs old l (i + 1)) (sym (e ∙ ap (splice now (i * w)) q)) (chunked-more xs old now i d fit h c)
 
   -- at the loop's end, where the chunks are as long as the list
-  pub chunked-full : (xs : List A) (old now : List B) (i : ℕ) → length old ≤ length xs * w → length xs ≤ i → Chunked xs old now i → now ≡ flatMap f xs
+  pub chunked-full :
+      (xs : List A) (old now : List B) (i : ℕ) → length old ≤ length xs * w → length xs ≤ i → Chunked xs old now i → now ≡ flatMap f xs
   chunked-full xs old now i fit h c =
       chunked-all xs old now i h c ∙ ap (λ (l : List B). flatMap f xs ++ l) (drop-of-length-le old fit) ∙ append-nil (flatMap f xs)

@@ -1,4 +1,5 @@
--- A list that a loop fills from the front, one store a turn: whatever the target, an invariant on lists and not on every index. Assumes nothing.
+-- A list that a loop fills from the front, one store a turn: whatever the target, an invariant on lists and not on every index. Assumes
+-- nothing.
 use mathlib.Core.Path.{_≡_, refl, sym, ap, _∙_}
 use mathlib.Core.List.{List, [], _∷_, _++_, append-nil}
 use Prim.Native.Nat.{ℕ, zero, suc, _+_, _≤_, _<_, zero-le}
@@ -13,7 +14,9 @@ module _ {A : Type 0} where
   abbrev pub filled : List A → List A → ℕ → List A
   filled goal old i = take i goal ++ drop i old
 
-  store : (goal old : List A) (i : ℕ) (d : A) → i < length goal → i < length old → set (filled goal old i) i (getD goal i d) ≡ filled goal old (suc i)
+  store :
+      (goal old : List A) (i : ℕ) (d : A) → i < length goal → i < length old
+      → set (filled goal old i) i (getD goal i d) ≡ filled goal old (suc i)
   store [] old i d h k = absurd (not-suc-le-zero h)
   store (x ∷ xs) [] i d h k = absurd (not-suc-le-zero k)
   store (x ∷ xs) (y ∷ ys) zero d h k = refl
@@ -58,7 +61,8 @@ module _ {A : Type 0} where
   pub filling-none : (goal old : List A) → Filling goal old old 0
   filling-none goal old = record { reach = zero-le; same = refl; stored = refl }
 
-  pub filling-more : (goal old now : List A) (i : ℕ) (v d : A) → length goal ≡ length old → i < length old → Filling goal old now i → v ≡ getD goal i d
+  pub filling-more :
+      (goal old now : List A) (i : ℕ) (v d : A) → length goal ≡ length old → i < length old → Filling goal old now i → v ≡ getD goal i d
       → Filling goal old (set now i v) (i + 1)
   filling-more goal old now i v d l h f q = record {
     reach = omega arith;
@@ -70,5 +74,6 @@ module _ {A : Type 0} where
   filling-all goal old now i l h f = fill-all goal old now i (f .stored) l (omega (arith, f .reach))
 
   -- a turn that reads the element before it writes it reads the old one
-  pub filling-next : (goal old now : List A) (i : ℕ) (d : A) → length goal ≡ length old → Filling goal old now i → getD now i d ≡ getD old i d
+  pub filling-next :
+      (goal old now : List A) (i : ℕ) (d : A) → length goal ≡ length old → Filling goal old now i → getD now i d ≡ getD old i d
   filling-next goal old now i d l f = fill-next goal old now i d (f .stored) (omega (arith, f .reach))

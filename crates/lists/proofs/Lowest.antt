@@ -1,4 +1,5 @@
--- When each number of a list of rules is given: the rules are walked, and since the numbers rise no later rule gives an earlier one's. Assumes nothing.
+-- When each number of a list of rules is given: the rules are walked, and since the numbers rise no later rule gives an earlier one's.
+-- Assumes nothing.
 use mathlib.Core.Path.{_≡_, refl, sym, _∙_}
 use Prim.Native.Nat.{ℕ, zero, suc, _≤_, _<_}
 use native.Mathlib.Nat.{le-of-suc-le-suc, not-suc-le-zero}
@@ -40,12 +41,15 @@ given-above : (n : ℕ) (rs : List Rule) → rising n rs ≡ true → (lowest rs
 given-above n [] up = inl refl
 given-above n (r ∷ rs) up = go (holds-or (r .applies)) (given-above (r .number) rs (later-rise n r rs up))
   where
-    go : (r .applies ≡ true) ⊎ (r .applies ≡ false) → (lowest rs ≡ 0) ⊎ (r .number < lowest rs) → (lowest (r ∷ rs) ≡ 0) ⊎ (n < lowest (r ∷ rs))
+    go :
+        (r .applies ≡ true) ⊎ (r .applies ≡ false) → (lowest rs ≡ 0) ⊎ (r .number < lowest rs)
+        → (lowest (r ∷ rs) ≡ 0) ⊎ (n < lowest (r ∷ rs))
     go (inl t) d = inr (omega (arith, first-above n r rs up, cond-yes (r .number) (lowest rs) t))
     go (inr f) (inl z) = inl (cond-no (r .number) (lowest rs) f ∙ z)
     go (inr f) (inr g) = inr (omega (arith, first-above n r rs up, cond-no (r .number) (lowest rs) f))
 
-number-first : (n : ℕ) (rs : List Rule) → rising n rs ≡ true → (i : ℕ) → i < length rs → lowest rs ≡ getD rs i (rule false 0) .number → First rs i
+number-first :
+    (n : ℕ) (rs : List Rule) → rising n rs ≡ true → (i : ℕ) → i < length rs → lowest rs ≡ getD rs i (rule false 0) .number → First rs i
 number-first n [] up i h e = absurd (not-suc-le-zero h)
 number-first n (r ∷ rs) up zero h e = go (holds-or (r .applies)) (given-above (r .number) rs (later-rise n r rs up))
   where
@@ -53,7 +57,8 @@ number-first n (r ∷ rs) up zero h e = go (holds-or (r .applies)) (given-above 
     go (inl t) d = t
     go (inr f) (inl z) = absurd (omega (arith, first-above n r rs up, cond-no (r .number) (lowest rs) f))
     go (inr f) (inr g) = absurd (omega (arith, cond-no (r .number) (lowest rs) f))
-number-first n (r ∷ rs) up (suc i) h e = go (holds-or (r .applies)) (λ d. number-first (r .number) rs (later-rise n r rs up) i (le-of-suc-le-suc h) d)
+number-first n (r ∷ rs) up (suc i) h e =
+    go (holds-or (r .applies)) (λ d. number-first (r .number) rs (later-rise n r rs up) i (le-of-suc-le-suc h) d)
   where
     go : (r .applies ≡ true) ⊎ (r .applies ≡ false) → (lowest rs ≡ getD rs i (rule false 0) .number → First rs i) → First (r ∷ rs) (suc i)
     go (inl t) more =

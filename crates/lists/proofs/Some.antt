@@ -1,5 +1,5 @@
--- A test on the elements of a list: what none, one or every element passing says of the elements, both ways, what keeps that every element passes,
--- and how a loop comes by it, an element a turn. By induction on the list. Assumes nothing.
+-- A test on the elements of a list: what none, one or every element passing says of the elements, both ways, what keeps that every element
+-- passes, and how a loop comes by it, an element a turn. By induction on the list. Assumes nothing.
 use mathlib.Core.Path.{_≡_, refl, sym, ap, _∙_}
 use mathlib.Core.Bool.{Bool, true, false, not, _&&_, _||_}
 use mathlib.Core.List.{List, [], _∷_, _++_, List·Memᴰ, List·Memᴰ·head, List·Memᴰ·tail, List·Memᴰ·not-nil, List·Memᴰ·cases-cons}
@@ -43,7 +43,8 @@ module _ {A : Type 0} (test : A → Bool) where
       ap (λ (b : Bool). test x || b) (some-suc xs i d (le-of-suc-le-suc h)) ∙ or-assoc (test x) (some test (take i xs)) (test (getD xs i d))
 
   -- of one element more
-  pub some-more : (xs : List A) (i : ℕ) (d : A) → i < length xs → some test (take (i + 1) xs) ≡ (some test (take i xs) || test (getD xs i d))
+  pub some-more :
+      (xs : List A) (i : ℕ) (d : A) → i < length xs → some test (take (i + 1) xs) ≡ (some test (take i xs) || test (getD xs i d))
   some-more xs i d h = rw add-one (some-suc xs i d h)
 
   -- none passes: each fails
@@ -121,9 +122,11 @@ module _ {A : Type 0} (test : A → Bool) where
 
   every-sets : (xs : List A) (a : ℕ) (new : List A) → every test xs ≡ true → every test new ≡ true → every test (sets xs a new) ≡ true
   every-sets xs a [] e f = e
-  every-sets xs a (x ∷ new) e f = let both = every-split x new f in every-sets (set xs a x) (suc a) new (every-set xs a x e (both .0)) (both .1)
+  every-sets xs a (x ∷ new) e f =
+      let both = every-split x new f in every-sets (set xs a x) (suc a) new (every-set xs a x e (both .0)) (both .1)
 
-  pub every-splice : (xs : List A) (a : ℕ) (new : List A) → every test xs ≡ true → every test new ≡ true → every test (splice xs a new) ≡ true
+  pub every-splice :
+      (xs : List A) (a : ℕ) (new : List A) → every test xs ≡ true → every test new ≡ true → every test (splice xs a new) ≡ true
   unfolding splice
   every-splice xs a new e f = every-sets xs a new e f
 

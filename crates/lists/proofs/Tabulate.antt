@@ -1,4 +1,5 @@
--- The laws of `tabulate`: how long it is, what stands at an index, and that a list is what its own elements make. By induction on the length. Assumes nothing.
+-- The laws of `tabulate`: how long it is, what stands at an index, and that a list is what its own elements make. By induction on the
+-- length. Assumes nothing.
 use mathlib.Core.Path.{_≡_, refl, sym, ap, _∙_, subst}
 use mathlib.Core.List.{List}
 use Prim.Native.Nat.{ℕ, zero, suc, _<_}
@@ -19,4 +20,5 @@ module _ {A : Type 0} where
 
   pub tabulated : (l : List A) (f : ℕ → A) (n : ℕ) (d : A) → length l ≡ n → ((k : ℕ) → k < n → getD l k d ≡ f k) → l ≡ tabulate f n
   tabulated l f n d e h =
-      ext-getD d l (tabulate f n) (e ∙ sym (length-tabulate f n)) (λ k b. let c = subst (λ (m : ℕ). k < m) e b in h k c ∙ sym (getD-tabulate f n k d c))
+      ext-getD d l (tabulate f n) (e ∙ sym (length-tabulate f n))
+      (λ k b. let c = subst (λ (m : ℕ). k < m) e b in h k c ∙ sym (getD-tabulate f n k d c))

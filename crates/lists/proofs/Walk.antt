@@ -1,4 +1,5 @@
--- A walk over a list by an index: what is left of it, one element further; the two sides of a bound; and what every index reads. Assumes nothing.
+-- A walk over a list by an index: what is left of it, one element further; the two sides of a bound; and what every index reads. Assumes
+-- nothing.
 use mathlib.Core.Path.{_≡_, refl, sym, ap, _∙_, subst}
 use mathlib.Core.List.{List, [], _∷_}
 use mathlib.Core.Logic.{_⊎_, inl, inr, ⊎-elim}

@@ -1,5 +1,5 @@
--- A number stored in bytes is read back, and bytes read as a number are stored back: a quotient by 256 or 65536 and its remainder are the number again.
--- Reading in a part is reading in the whole. Assumes nothing.
+-- A number stored in bytes is read back, and bytes read as a number are stored back: a quotient by 256 or 65536 and its remainder are the
+-- number again. Reading in a part is reading in the whole. Assumes nothing.
 use mathlib.Core.Path.{_≡_, sym, ap, ap₂, _∙_}
 use mathlib.Core.List.{List, [], _∷_, _++_}
 use Prim.Native.Nat.{ℕ, _+_, _*_, _/_, _%_, _≤_, _<_}
@@ -36,12 +36,14 @@ lower high low h = omega arith
 module _ (w x y z : ℕ) (a : w < 256) (b : x < 256) (c : y < 256) (d : z < 256) where
   pub bytes32-read : bytes32 (at32 (w ∷ x ∷ y ∷ z ∷ []) 0) ≡ w ∷ x ∷ y ∷ z ∷ []
   bytes32-read =
-      ap₂ (λ (i j : ℕ). bytes16 i ++ bytes16 j) (lower (z * 256 + y) (x * 256 + w) (omega arith)) (upper (z * 256 + y) (x * 256 + w) (omega arith))
+      ap₂ (λ (i j : ℕ). bytes16 i ++ bytes16 j) (lower (z * 256 + y) (x * 256 + w) (omega arith))
+      (upper (z * 256 + y) (x * 256 + w) (omega arith))
       ∙ ap₂ (λ (i j : List ℕ). i ++ j) (bytes16-read w x a b) (bytes16-read y z c d)
 
   pub dsp32Bytes-read : dsp32Bytes (atDsp32 (w ∷ x ∷ y ∷ z ∷ []) 0) ≡ w ∷ x ∷ y ∷ z ∷ []
   dsp32Bytes-read =
-      ap₂ (λ (i j : ℕ). bytes16 i ++ bytes16 j) (upper (x * 256 + w) (z * 256 + y) (omega arith)) (lower (x * 256 + w) (z * 256 + y) (omega arith))
+      ap₂ (λ (i j : ℕ). bytes16 i ++ bytes16 j) (upper (x * 256 + w) (z * 256 + y) (omega arith))
+      (lower (x * 256 + w) (z * 256 + y) (omega arith))
       ∙ ap₂ (λ (i j : List ℕ). i ++ j) (bytes16-read w x a b) (bytes16-read y z c d)
 
 -- ---- a number in a part, and in the whole

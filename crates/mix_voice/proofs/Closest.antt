@@ -1,9 +1,11 @@
--- A fraction rounded to halves, a tie to the even one, and then cut to a whole number: with a quarter taken off first that is the whole part of the fraction,
--- and with a quarter put on the next whole number up from its negative. Over 4 * Q, so that Q is a quarter. Assumes nothing.
+-- A fraction rounded to halves, a tie to the even one, and then cut to a whole number: with a quarter taken off first that is the whole
+-- part of the fraction, and with a quarter put on the next whole number up from its negative. Over 4 * Q, so that Q is a quarter. Assumes
+-- nothing.
 use mathlib.Core.Path.{_≡_, refl, sym, ap, _∙_, subst}
 use mathlib.Core.Bool.{not}
 use Prim.Native.Nat.{ℕ, suc, _+_, _-_, _*_, _/_, _%_, _≤_, _<_, compare, Ordering, Ordering·lt, Ordering·eq, Ordering·gt}
-use native.Mathlib.Nat.{le-trans, le-of-eq, mul-assoc, mul-comm, mul-left-comm, add-mul, mul-le-mul-right, le-of-mul-le-mul-right, div-add-mod', mod-lt}
+use native.Mathlib.Nat.{le-trans, le-of-eq, mul-assoc, mul-comm, mul-left-comm, add-mul, mul-le-mul-right, le-of-mul-le-mul-right}
+use native.Mathlib.Nat.{div-add-mod', mod-lt}
 use native.Mathlib.Omega.{arith}
 use lib.Arith.{digits-div, digits-mod}
 use lib.Dec.{T, isLe, isEq, eqb, eqb-refl, eqb→eq, leb→le, nleb→lt}
@@ -138,7 +140,8 @@ module _ (Q : ℕ) (Q2 : 1 < Q) where
           within = omega (arith, whole, back 12582912 (omega (arith, a-few)))
 
       pub above-ge : 12582911 - 2 * a ≤ closest above d
-      above-ge = le-trans next (le-trans (le-of-eq (sym (at-more (12582910 - 2 * a)))) (up-to ((12582910 - 2 * a) * d + (Q + 1)) above within))
+      above-ge =
+          le-trans next (le-trans (le-of-eq (sym (at-more (12582910 - 2 * a)))) (up-to ((12582910 - 2 * a) * d + (Q + 1)) above within))
         where
           next : 12582911 - 2 * a ≤ suc (12582910 - 2 * a)
           next = omega (arith, a-few)

@@ -14,7 +14,8 @@ use Rattle.lists.proofs.Bools.{cond-no}
 use Rattle.lists.proofs.Tabulate.{length-tabulate, getD-tabulate, tabulated}
 use Rattle.lists.proofs.Walk.{below-or}
 use Rattle.mix_voice.specs.declared.sums.Gains.{Gains}
-use Rattle.mix_voice.specs.Mixed.{sampleAt, partOf, rampedAt, summed, ramped, Unmarked, partAt, voiced, gainsOf, pick, eitherAt, mixed, four}
+use Rattle.mix_voice.specs.Mixed.{sampleAt, partOf, rampedAt, summed, ramped, Unmarked, partAt, voiced, gainsOf, pick, eitherAt}
+use Rattle.mix_voice.specs.Mixed.{mixed, four}
 use Rattle.mix_voice.proofs.Turns.{Mixing, mix-turn, row-is, three-mixes}
 
 module _ (on : Bool) (from to : Gains) (frame : List ℤ) where
@@ -27,8 +28,10 @@ module _ (on : Bool) (from to : Gains) (frame : List ℤ) where
     Fading i l = Mixing m (eitherAt on from to frame) old small long i l
 
     -- a turn, by a call that says what it left; at steady gains it is `on` = false
-    pub fade-turn : (i : ℕ) (l r : List ℤ) (a b : ℤ) → i < 160 → Fading i l → a ≡ getD frame (i * 2) (pos 0) → b ≡ getD frame (i * 2 + 1) (pos 0)
-        → r ≡ four (partOf on (from .g0) (to .g0) i a) (partOf on (from .g1) (to .g1) i b) (partOf on (from .g2) (to .g2) i a) (partOf on (from .g3) (to .g3) i b) (m * 640 + i) l
+    pub fade-turn :
+        (i : ℕ) (l r : List ℤ) (a b : ℤ) → i < 160 → Fading i l → a ≡ getD frame (i * 2) (pos 0) → b ≡ getD frame (i * 2 + 1) (pos 0)
+        → r ≡ four (partOf on (from .g0) (to .g0) i a) (partOf on (from .g1) (to .g1) i b) (partOf on (from .g2) (to .g2) i a)
+        (partOf on (from .g3) (to .g3) i b) (m * 640 + i) l
         → Fading (i + 1) r
     fade-turn i l r a b h w p q e =
         subst (λ (x : List ℤ). Fading (i + 1) x) (sym e)
@@ -44,28 +47,34 @@ unfolding mixed
 length-mixed m part l = length-tabulate (λ k. cond (eqb (k / 640) m) (summed (getD l k (pos 0)) (part k)) (getD l k (pos 0))) 1920
 
 module _ (marks : List Bool) (ramp gains : List Float) (frame : List ℤ) where
-  ramp-row : (m k : ℕ) → k / 640 ≡ m → eitherAt (getD marks m false) (gainsOf ramp m) (gainsOf gains m) frame k ≡ rampedAt marks ramp gains frame k
+  ramp-row :
+      (m k : ℕ) → k / 640 ≡ m → eitherAt (getD marks m false) (gainsOf ramp m) (gainsOf gains m) frame k ≡ rampedAt marks ramp gains frame k
   ramp-row m k e = λ j. partOf (getD marks (sym e j) false) (row-is ramp m k e j) (row-is gains m k e j) (k % 160) (sampleAt frame k)
 
   abbrev own : ℕ → ℕ → ℤ
   own m = eitherAt (getD marks m false) (gainsOf ramp m) (gainsOf gains m) frame
 
   -- mix m, by a call that says what it left
-  pub at-mix : (m : ℕ) (f t : Gains) (l r : List ℤ) → f ≡ gainsOf ramp m → t ≡ gainsOf gains m → r ≡ mixed m (eitherAt (getD marks m false) f t frame) l → r ≡ mixed m (own m) l
+  pub at-mix :
+      (m : ℕ) (f t : Gains) (l r : List ℤ) → f ≡ gainsOf ramp m → t ≡ gainsOf gains m
+      → r ≡ mixed m (eitherAt (getD marks m false) f t frame) l → r ≡ mixed m (own m) l
   at-mix m f t l r p q e = e ∙ (λ j. mixed m (eitherAt (getD marks m false) (p j) (q j) frame) l)
 
   pub each-is : (old l0 l1 l2 : List ℤ) → length old ≡ 1920 → l0 ≡ mixed 0 (own 0) old → l1 ≡ mixed 1 (own 1) l0 → l2 ≡ mixed 2 (own 2) l1
       → l2 ≡ ramped marks ramp gains frame old
   unfolding ramped
-  each-is old l0 l1 l2 long e0 e1 e2 = e2 ∙ ap (mixed 2 (own 2)) (e1 ∙ ap (mixed 1 (own 1)) e0) ∙ three-mixes (rampedAt marks ramp gains frame) old long own ramp-row
+  each-is old l0 l1 l2 long e0 e1 e2 =
+      e2 ∙ ap (mixed 2 (own 2)) (e1 ∙ ap (mixed 1 (own 1)) e0) ∙ three-mixes (rampedAt marks ramp gains frame) old long own ramp-row
 
   -- where no mix fades the gains are steady
   pub unmarked : (old : List ℤ) → Unmarked marks → voiced gains frame old ≡ ramped marks ramp gains frame old
   unfolding voiced ramped
   unmarked old z =
-      tabulated (tabulate (λ k. summed (getD old k (pos 0)) (partAt gains frame k)) 1920) (λ k. summed (getD old k (pos 0)) (rampedAt marks ramp gains frame k)) 1920 (pos 0)
+      tabulated (tabulate (λ k. summed (getD old k (pos 0)) (partAt gains frame k)) 1920)
+      (λ k. summed (getD old k (pos 0)) (rampedAt marks ramp gains frame k)) 1920 (pos 0)
       (length-tabulate (λ k. summed (getD old k (pos 0)) (partAt gains frame k)) 1920)
-      (λ k h. getD-tabulate (λ k. summed (getD old k (pos 0)) (partAt gains frame k)) 1920 k (pos 0) h ∙ ap (λ (n : ℤ). summed (getD old k (pos 0)) n) (sym (cond-no _ (partAt gains frame k) (off k h))))
+      (λ k h. getD-tabulate (λ k. summed (getD old k (pos 0)) (partAt gains frame k)) 1920 k (pos 0) h
+      ∙ ap (λ (n : ℤ). summed (getD old k (pos 0)) n) (sym (cond-no _ (partAt gains frame k) (off k h))))
     where
       at : (k m : ℕ) → k / 640 ≡ m → getD marks m false ≡ false → getD marks (k / 640) false ≡ false
       at k m e f = ap (λ (n : ℕ). getD marks n false) e ∙ f
@@ -73,5 +82,6 @@ module _ (marks : List Bool) (ramp gains : List Float) (frame : List ℤ) where
       off : (k : ℕ) → k < 1920 → getD marks (k / 640) false ≡ false
       off k h =
           ⊎-elim (λ (l : k < 640). at k 0 (omega arith) (z .0))
-          (λ (l : 640 ≤ k). ⊎-elim (λ (u : k < 1280). at k 1 (omega arith) (z .1 .0)) (λ (u : 1280 ≤ k). at k 2 (omega arith) (z .1 .1)) (below-or k 1280))
+          (λ (l : 640 ≤ k). ⊎-elim (λ (u : k < 1280). at k 1 (omega arith) (z .1 .0)) (λ (u : 1280 ≤ k). at k 2 (omega arith) (z .1 .1))
+          (below-or k 1280))
           (below-or k 640)

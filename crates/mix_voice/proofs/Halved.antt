@@ -1,9 +1,11 @@
--- From 2 ^ 22 to 2 ^ 23 an f32 has halves and nothing finer: the nearest to N / 2 ^ 149 is K / 2, and K stands in its bits. Assumes nothing.
+-- From 2 ^ 22 to 2 ^ 23 an f32 has halves and nothing finer: the nearest to N / 2 ^ 149 is K / 2, and K stands in its bits. Assumes
+-- nothing.
 use mathlib.Core.Path.{_≡_, refl, ap, _∙_, subst}
 use mathlib.Core.Bool.{true, false, true≢false}
 use mathlib.Core.Logic.{⊎-elim}
 use Prim.Native.Nat.{ℕ, _+_, _*_, _/_, _^_, _≤_, _<_}
-use native.Mathlib.Nat.{le-of-eq, lt-of-lt-of-le, lt-of-le-of-lt, not-le-of-lt, mul-assoc, mul-div-cancel, mul-le-mul-right, mul-lt-mul-of-pos-right}
+use native.Mathlib.Nat.{le-of-eq, lt-of-lt-of-le, lt-of-le-of-lt, not-le-of-lt, mul-assoc, mul-div-cancel, mul-le-mul-right}
+use native.Mathlib.Nat.{mul-lt-mul-of-pos-right}
 use native.Mathlib.Omega.{arith}
 use lib.Dec.{lit<, lit≤}
 use lib.Pow.{pow-pos, pow-mono}
@@ -28,7 +30,8 @@ size-is n h k = both (size n) (size-le n 172 k) (⊎-elim (λ l. absurd (few l))
     few : size n < 172 → ⊥
     few l = not-le-of-lt (lt-of-lt-of-le (size-lt n) (pow-mono {i = size n} {j = 171} (omega arith))) h
 
-pub bits-of : (x : Float) (K : ℕ) → HasValue x false (K * 2 ^ 148) (2 ^ 149) → 8388608 ≤ K → K < 16777216 → toBits binary32 x ≡ 1241513984 + K
+pub bits-of :
+    (x : Float) (K : ℕ) → HasValue x false (K * 2 ^ 148) (2 ^ 149) → 8388608 ≤ K → K < 16777216 → toBits binary32 x ≡ 1241513984 + K
 unfolding toBits
 bits-of nan K v h k = absurd v
 bits-of (inf s) K v h k = absurd v
@@ -61,7 +64,10 @@ module _ (N : ℕ) (least : 16777216 * Q ≤ N) (most : N < 33554432 * Q) where
   pub rounded : closest N (2 * Q) < 16777216 → HasValue (round binary32 false N D) false (closest N (2 * Q) * 2 ^ 148) D
   rounded h =
       subst (λ (g : ℕ). HasValue (round binary32 false N D) false g D) grid-is
-      (round-value binary32 false N D (lt-of-le-of-lt (le-of-eq grid-is) (lt-of-lt-of-le (mul-lt-mul-of-pos-right h (pow-pos 148)) (lit≤ tt))))
+      (round-value binary32 false N D
+      (lt-of-le-of-lt (le-of-eq grid-is) (lt-of-lt-of-le (mul-lt-mul-of-pos-right h (pow-pos 148)) (lit≤ tt))))
 
-  pub halved : closest N (2 * Q) < 16777216 → 8388608 ≤ closest N (2 * Q) → toBits binary32 (round binary32 false N D) ≡ 1241513984 + closest N (2 * Q)
+  pub halved :
+      closest N (2 * Q) < 16777216 → 8388608 ≤ closest N (2 * Q)
+      → toBits binary32 (round binary32 false N D) ≡ 1241513984 + closest N (2 * Q)
   halved h k = bits-of (round binary32 false N D) (closest N (2 * Q)) (rounded h) k h

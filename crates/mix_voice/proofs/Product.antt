@@ -3,7 +3,8 @@ use mathlib.Core.Path.{_≡_, refl, sym, ap, _∙_, subst}
 use mathlib.Core.Bool.{Bool, true, false, not, _&&_, _||_, cond, true≢false}
 use mathlib.Core.Logic.{⊎-elim, inl, inr}
 use Prim.Native.Nat.{ℕ, zero, suc, _+_, _-_, _*_, _/_, _^_, _≤_, _<_, min}
-use native.Mathlib.Nat.{le-refl, le-trans, le-of-eq, mul-one, one-mul, zero-mul, mul-zero, mul-right-comm, mul-le-mul, zero-div, zero-lt-suc}
+use native.Mathlib.Nat.{le-refl, le-trans, le-of-eq, mul-one, one-mul, zero-mul, mul-zero, mul-right-comm, mul-le-mul, zero-div}
+use native.Mathlib.Nat.{zero-lt-suc}
 use native.Mathlib.Omega.{arith}
 use lib.IntN.{ℤ, pos, negsuc, negℤ, natAbs, subℕ, _-ℤ_}
 use lib.Dec.{T, ltb, eqb, eqb→eq, lit<, lit≤}
@@ -86,7 +87,8 @@ quick-form (fin s m e) h =
     let z = plus-or-zero s m e (t .0) in
     (z, below-32 s m e z (t .1))
 
-pub quick-each : (g : Gains) → allQuick g ≡ true → (quick (g .g0) ≡ true) × ((quick (g .g1) ≡ true) × ((quick (g .g2) ≡ true) × (quick (g .g3) ≡ true)))
+pub quick-each :
+    (g : Gains) → allQuick g ≡ true → (quick (g .g0) ≡ true) × ((quick (g .g1) ≡ true) × ((quick (g .g2) ≡ true) × (quick (g .g3) ≡ true)))
 unfolding allQuick
 quick-each g h =
     let a = and-both (quick (g .g0)) (quick (g .g1) && (quick (g .g2) && quick (g .g3))) h in
@@ -165,7 +167,8 @@ unfolding toSigned
 cast-of nan s g v h = absurd v
 cast-of (inf t) s g v h = absurd v
 cast-of (fin t m e) s g v h =
-    (λ i. cond (v .0 i) (negℤ (pos (min (same i) (2 ^ 31)))) (pos (min (same i) (2 ^ 31 - 1)))) ∙ (λ i. cond s (negℤ (pos (less (g / D) h .0 i))) (pos (less (g / D) h .1 i)))
+    (λ i. cond (v .0 i) (negℤ (pos (min (same i) (2 ^ 31)))) (pos (min (same i) (2 ^ 31 - 1))))
+    ∙ (λ i. cond s (negℤ (pos (less (g / D) h .0 i))) (pos (less (g / D) h .1 i)))
   where
     same : m * up e / down e ≡ g / D
     same = div-same (m * up e) (down e) g D (down-pos e) (pow-pos 149) (v .1)
@@ -187,7 +190,9 @@ pub record Product (g : Float) (v : ℤ) : Type 0 where
   pub base : baseOf (quarterOf (single v)) ≡ baseBy b
   pub is : at-gain g v ≡ signed b fl
 
-product : (g x : Float) (v : ℤ) (b s : Bool) (n : ℕ) → x ≡ mul binary32 g (single v) → HasValue x s n D → (s ≡ not b → n ≡ 0) → Less b (sub binary32 x (quarterOf (single v))) n → baseOf (quarterOf (single v)) ≡ baseBy b → Product g v
+product :
+    (g x : Float) (v : ℤ) (b s : Bool) (n : ℕ) → x ≡ mul binary32 g (single v) → HasValue x s n D → (s ≡ not b → n ≡ 0)
+    → Less b (sub binary32 x (quarterOf (single v))) n → baseOf (quarterOf (single v)) ≡ baseBy b → Product g v
 unfolding at-gain
 product g x v b s n e h z l f =
     let k = seen b (sub binary32 x (quarterOf (single v))) n l in
@@ -196,7 +201,9 @@ product g x v b s n e h z l f =
       fl = n / D;
       seen = subst (λ (y : Float). Seen b (add binary32 (sub binary32 y (quarterOf (single v))) middle) (n / D)) e k;
       base = f;
-      is = ap (λ (y : Float). cast-i32 y) (sym e) ∙ cast-of x s n h (k .few) ∙ no-sign s b (n / D) (λ (t : s ≡ not b). ap (λ (a : ℕ). a / D) (z t) ∙ zero-div D);
+      is =
+          ap (λ (y : Float). cast-i32 y) (sym e) ∙ cast-of x s n h (k .few)
+          ∙ no-sign s b (n / D) (λ (t : s ≡ not b). ap (λ (a : ℕ). a / D) (z t) ∙ zero-div D);
     }
 
 module _ (s : Bool) (m : ℕ) (e : ℤ) (z : s ≡ true → m * up e ≡ 0) (most : m * up e ≤ 32 * down e) where
@@ -210,13 +217,16 @@ module _ (s : Bool) (m : ℕ) (e : ℤ) (z : s ≡ true → m * up e ≡ 0) (mos
   d0 = rw (mul-one (down e)) (down-pos e)
 
   few : (v : ℤ) → natAbs v ≤ 32768 → n v ≤ 1048576 * d
-  few v h = le-trans (mul-le-mul most h) (le-of-eq (mul-right-comm 32 (down e) 32768 ∙ ap (λ (x : ℕ). 1048576 * x) (sym (mul-one (down e)))))
+  few v h =
+      le-trans (mul-le-mul most h) (le-of-eq (mul-right-comm 32 (down e) 32768 ∙ ap (λ (x : ℕ). 1048576 * x) (sym (mul-one (down e)))))
 
   abbrev x : ℤ → Float
   x v = round binary32 (unlike s (below-0 v)) (n v) d
 
   x-is : (v : ℤ) → natAbs v ≤ 32768 → x v ≡ mul binary32 (fin s m e) (single v)
-  x-is v h = sym (mul-value binary32 (fin s m e) (single v) s (below-0 v) (m * up e) (natAbs v) (down e) 1 (down-pos e) (zero-lt-suc 0) (refl, refl) (int-value binary32 v (le-trans h (lit≤ tt))))
+  x-is v h =
+      sym (mul-value binary32 (fin s m e) (single v) s (below-0 v) (m * up e) (natAbs v) (down e) 1 (down-pos e) (zero-lt-suc 0)
+      (refl, refl) (int-value binary32 v (le-trans h (lit≤ tt))))
 
   silent : (v : ℤ) → (h : natAbs v ≤ 32768) → (b : Bool) → unlike s b ≡ not b → G (n v) d d0 (few v h) ≡ 0
   silent v h b t = G-zero (n v) d d0 (few v h) (ap (λ (p : ℕ). p * natAbs v) (z (turned s b t)) ∙ zero-mul (natAbs v))
@@ -228,8 +238,10 @@ module _ (s : Bool) (m : ℕ) (e : ℤ) (z : s ≡ true → m * up e ≡ 0) (mos
 
   at-sign : (v : ℤ) (h : natAbs v ≤ 32768) → quarterOf (single v) ≡ quarter (below-0 v) → Product (fin s m e) v
   at-sign v h q =
-      product (fin s m e) (x v) v (below-0 v) (unlike s (below-0 v)) (G (n v) d d0 (few v h)) (x-is v h) (x-value (n v) d d0 (few v h) (unlike s (below-0 v))) (silent v h (below-0 v))
-      (subst (λ (y : Float). Less (below-0 v) (sub binary32 (x v) y) (G (n v) d d0 (few v h))) (sym q) (less-quarter (n v) d d0 (few v h) (unlike s (below-0 v)) (below-0 v) (silent v h (below-0 v))))
+      product (fin s m e) (x v) v (below-0 v) (unlike s (below-0 v)) (G (n v) d d0 (few v h)) (x-is v h)
+      (x-value (n v) d d0 (few v h) (unlike s (below-0 v))) (silent v h (below-0 v))
+      (subst (λ (y : Float). Less (below-0 v) (sub binary32 (x v) y) (G (n v) d d0 (few v h))) (sym q)
+      (less-quarter (n v) d d0 (few v h) (unlike s (below-0 v)) (below-0 v) (silent v h (below-0 v))))
       (ap (λ (y : Float). baseOf y) q ∙ base-quarter (below-0 v))
 
   -- of silence nothing is taken
@@ -249,7 +261,8 @@ module _ (s : Bool) (m : ℕ) (e : ℤ) (z : s ≡ true → m * up e ≡ 0) (mos
       let t = unlike s false in
       let w = x-value (n (pos 0)) d d0 (few (pos 0) h) t in
       let q : quarterOf (single (pos 0)) ≡ +0 = ap (λ (y : Float). quarterOf y) zero-single ∙ zero-quarter in
-      let y : sub binary32 (x (pos 0)) +0 ≡ fin t 0 (pos 0) = sub-value binary32 (x (pos 0)) +0 t false (G (n (pos 0)) d d0 (few (pos 0) h)) 0 D (pow-pos 149) w (refl, refl) ∙ ap (λ (k : ℕ). sum binary32 t k true 0 D) g0 ∙ still t in
+      let y : sub binary32 (x (pos 0)) +0 ≡ fin t 0 (pos 0) = sub-value binary32 (x (pos 0)) +0 t false
+      (G (n (pos 0)) d d0 (few (pos 0) h)) 0 D (pow-pos 149) w (refl, refl) ∙ ap (λ (k : ℕ). sum binary32 t k true 0 D) g0 ∙ still t in
       product (fin s m e) (x (pos 0)) (pos 0) false t (G (n (pos 0)) d d0 (few (pos 0) h)) (x-is (pos 0) h) w (λ (u : t ≡ true). g0)
       (subst (λ (k : Float). Less false (sub binary32 (x (pos 0)) k) (G (n (pos 0)) d d0 (few (pos 0) h))) (sym q)
       (subst (λ (k : Float). Less false k (G (n (pos 0)) d d0 (few (pos 0) h))) (sym y)
@@ -258,11 +271,13 @@ module _ (s : Bool) (m : ℕ) (e : ℤ) (z : s ≡ true → m * up e ≡ 0) (mos
 
   by-sample : (v : ℤ) → mag v < 32768 → Product (fin s m e) v
   by-sample (pos zero) h = at-zero
-  by-sample (pos (suc k)) h = at-sign (pos (suc k)) l (positive-quarter (single (pos (suc k))) k (int-value binary32 (pos (suc k)) (le-trans l (lit≤ tt))))
+  by-sample (pos (suc k)) h =
+      at-sign (pos (suc k)) l (positive-quarter (single (pos (suc k))) k (int-value binary32 (pos (suc k)) (le-trans l (lit≤ tt))))
     where
       l : suc k ≤ 32768
       l = omega arith
-  by-sample (negsuc k) h = at-sign (negsuc k) l (negative-quarter (single (negsuc k)) k (int-value binary32 (negsuc k) (le-trans l (lit≤ tt))))
+  by-sample (negsuc k) h =
+      at-sign (negsuc k) l (negative-quarter (single (negsuc k)) k (int-value binary32 (negsuc k) (le-trans l (lit≤ tt))))
     where
       l : suc k ≤ 32768
       l = omega arith
@@ -283,8 +298,10 @@ shifted false K fl c f h = ap (λ (z : ℤ). shrZ z 2) (sub-above (1241513984 + 
     half = omega (arith, c .0, c .1)
 shifted true K fl c f h =
     ⊎-elim
-    (λ (l : 1241513984 + K < 0x4ABF_FFFF). ap (λ (z : ℤ). shrZ z 2) (sub-below (1241513984 + K) 0x4ABF_FFFF l) ∙ ap (λ (n : ℕ). negℤ (pos n)) (sym (half l)))
-    (λ (l : 0x4ABF_FFFF ≤ 1241513984 + K). ap (λ (z : ℤ). shrZ z 2) (sub-above (1241513984 + K) 0x4ABF_FFFF l) ∙ ap pos (none l .0) ∙ ap (λ (n : ℕ). negℤ (pos n)) (sym (none l .1)))
+    (λ (l : 1241513984 + K < 0x4ABF_FFFF). ap (λ (z : ℤ). shrZ z 2) (sub-below (1241513984 + K) 0x4ABF_FFFF l)
+    ∙ ap (λ (n : ℕ). negℤ (pos n)) (sym (half l)))
+    (λ (l : 0x4ABF_FFFF ≤ 1241513984 + K). ap (λ (z : ℤ). shrZ z 2) (sub-above (1241513984 + K) 0x4ABF_FFFF l) ∙ ap pos (none l .0)
+    ∙ ap (λ (n : ℕ). negℤ (pos n)) (sym (none l .1)))
     (below-or (1241513984 + K) 0x4ABF_FFFF)
   where
     half : 1241513984 + K < 0x4ABF_FFFF → fl ≡ suc ((0x4ABF_FFFF - suc (1241513984 + K)) / 2)

@@ -1,9 +1,11 @@
--- A number of at most 2 ^ 20 in size, a quarter nearer to zero, in halves: cut to a whole number that is the number's whole part with its sign. Assumes nothing.
+-- A number of at most 2 ^ 20 in size, a quarter nearer to zero, in halves: cut to a whole number that is the number's whole part with its
+-- sign. Assumes nothing.
 use mathlib.Core.Path.{_≡_, refl, sym, ap, _∙_, subst}
 use mathlib.Core.Bool.{Bool, true, false, not, _&&_, cond}
 use mathlib.Core.Logic.{⊎-elim, _⊎_, inl, inr}
 use Prim.Native.Nat.{ℕ, _+_, _-_, _*_, _/_, _%_, _^_, _≤_, _<_, compare}
-use native.Mathlib.Nat.{le-trans, le-of-eq, lt-of-le-of-lt, zero-mul, mul-comm, mul-sub, mul-le-mul-right, div-eq-of-lt, div-div-eq-div-mul, sub-le}
+use native.Mathlib.Nat.{le-trans, le-of-eq, lt-of-le-of-lt, zero-mul, mul-comm, mul-sub, mul-le-mul-right, div-eq-of-lt, div-div-eq-div-mul}
+use native.Mathlib.Nat.{sub-le}
 use native.Mathlib.Omega.{arith}
 use lib.IntN.{pos, negsuc}
 use lib.Dec.{ltb, lit<}
@@ -112,7 +114,9 @@ module _ (n d : ℕ) (d0 : 0 < d) (most : n ≤ 1048576 * d) where
   r = 2 ^ (147 - j)
 
   off : (q - r) * 2 ^ j ≡ G - Q
-  off = mul-comm (q - r) (2 ^ j) ∙ mul-sub (2 ^ j) q r ∙ (λ i. mul-comm (2 ^ j) q i - (mul-comm (2 ^ j) r ∙ sym (pow-add 2 (147 - j) j) ∙ ap (λ (x : ℕ). 2 ^ x) (back 147 j j-le)) i)
+  off =
+      mul-comm (q - r) (2 ^ j) ∙ mul-sub (2 ^ j) q r
+      ∙ (λ i. mul-comm (2 ^ j) q i - (mul-comm (2 ^ j) r ∙ sym (pow-add 2 (147 - j) j) ∙ ap (λ (x : ℕ). 2 ^ x) (back 147 j j-le)) i)
 
   exact : (s : Bool) → HasValue (round binary32 s (G - Q) D) s (G - Q) D
   exact s =
@@ -140,19 +144,28 @@ module _ (n d : ℕ) (d0 : 0 < d) (most : n ≤ 1048576 * d) where
   less false false z = go (ltb G Q) refl
     where
       go : (t : Bool) → ltb G Q ≡ t → Less false (cond t (round binary32 true (Q - G) D) (round binary32 false (G - Q) D)) G
-      go true e = from-small false (round binary32 true (Q - G) D) G (le-of-lt' G Q (ltb-true G Q e)) (small-round true (Q - G) (sub-le Q G))
+      go true e =
+          from-small false (round binary32 true (Q - G) D) G (le-of-lt' G Q (ltb-true G Q e)) (small-round true (Q - G) (sub-le Q G))
       go false e = from-exact false (ltb-false G Q e)
-  less true false z = from-small false (round binary32 true (G + Q) D) G (none-more G Q (z refl) .1) (small-round true (G + Q) (none-more G Q (z refl) .0))
-  less false true z = from-small true (round binary32 false (G + Q) D) G (none-more G Q (z refl) .1) (small-round false (G + Q) (none-more G Q (z refl) .0))
+  less true false z =
+      from-small false (round binary32 true (G + Q) D) G (none-more G Q (z refl) .1) (small-round true (G + Q) (none-more G Q (z refl) .0))
+  less false true z =
+      from-small true (round binary32 false (G + Q) D) G (none-more G Q (z refl) .1) (small-round false (G + Q) (none-more G Q (z refl) .0))
   less true true z = go (ltb G Q) (ltb Q G) refl refl
     where
-      go : (t u : Bool) → ltb G Q ≡ t → ltb Q G ≡ u → Less true (cond t (round binary32 false (Q - G) D) (round binary32 (true && u) (G - Q) D)) G
-      go true u e f = from-small true (round binary32 false (Q - G) D) G (le-of-lt' G Q (ltb-true G Q e)) (small-round false (Q - G) (sub-le Q G))
+      go :
+          (t u : Bool) → ltb G Q ≡ t → ltb Q G ≡ u
+          → Less true (cond t (round binary32 false (Q - G) D) (round binary32 (true && u) (G - Q) D)) G
+      go true u e f =
+          from-small true (round binary32 false (Q - G) D) G (le-of-lt' G Q (ltb-true G Q e)) (small-round false (Q - G) (sub-le Q G))
       go false true e f = from-exact true (ltb-false G Q e)
-      go false false e f = from-small true (round binary32 false (G - Q) D) G (ltb-false Q G f) (small-round false (G - Q) (none-left G Q (ltb-false Q G f)))
+      go false false e f =
+          from-small true (round binary32 false (G - Q) D) G (ltb-false Q G f) (small-round false (G - Q) (none-left G Q (ltb-false Q G f)))
 
   pub less-quarter : (s b : Bool) → (s ≡ not b → G ≡ 0) → Less b (sub binary32 (round binary32 s n d) (quarter b)) G
-  less-quarter s b z = subst (λ (y : Float). Less b y G) (sym (sub-value binary32 (round binary32 s n d) (quarter b) s b G Q D (pow-pos 149) (x-value s) (refl, refl))) (less s b z)
+  less-quarter s b z =
+      subst (λ (y : Float). Less b y G)
+      (sym (sub-value binary32 (round binary32 s n d) (quarter b) s b G Q D (pow-pos 149) (x-value s) (refl, refl))) (less s b z)
 
 -- ---- with 2 ^ 22 + 2 ^ 21 put on it stands in halves, its bits are those of 2 ^ 22 and twice what was added
 abbrev pub Cutting : Bool → ℕ → ℕ → Type 0
@@ -171,7 +184,9 @@ pub record Seen (b : Bool) (t : Float) (fl : ℕ) : Type 0 where
 bounds : (a K : ℕ) → a ≤ 1048576 → 12582911 - 2 * a ≤ K → K ≤ 12582913 + 2 * a → (K < 16777216) × (8388608 ≤ K)
 bounds a K h k l = (omega arith, omega arith)
 
-seen-of : (b : Bool) (t : Float) (fl N : ℕ) → 16777216 * Q ≤ N → N < 33554432 * Q → t ≡ round binary32 false N D → fl ≤ 1048576 → 12582911 - 2 * fl ≤ closest N (2 * Q) → closest N (2 * Q) ≤ 12582913 + 2 * fl
+seen-of :
+    (b : Bool) (t : Float) (fl N : ℕ) → 16777216 * Q ≤ N → N < 33554432 * Q → t ≡ round binary32 false N D → fl ≤ 1048576
+    → 12582911 - 2 * fl ≤ closest N (2 * Q) → closest N (2 * Q) ≤ 12582913 + 2 * fl
     → Cutting b (closest N (2 * Q)) fl → Seen b t fl
 seen-of b t fl N low high e few ge le cut =
     let k = bounds fl (closest N (2 * Q)) few ge le in
@@ -190,7 +205,9 @@ seen-below t g h e =
     let f = a-few Q Q-two g h in
     let ge = below-ge Q Q-two g in
     let le = below-le Q Q-two g in
-    seen-of false t (g / (4 * Q)) (25165823 * Q + g) (low Q g) (high Q g Q-pos h) e f (weaker (g / (4 * Q)) (closest (25165823 * Q + g) (2 * Q)) ge) le (least (g / (4 * Q)) (closest (25165823 * Q + g) (2 * Q)) ge, cut-below Q Q-two g)
+    seen-of false t (g / (4 * Q)) (25165823 * Q + g) (low Q g) (high Q g Q-pos h) e f
+    (weaker (g / (4 * Q)) (closest (25165823 * Q + g) (2 * Q)) ge) le
+    (least (g / (4 * Q)) (closest (25165823 * Q + g) (2 * Q)) ge, cut-below Q Q-two g)
   where
     low : (P g : ℕ) → 16777216 * P ≤ 25165823 * P + g
     low P g = omega arith
@@ -209,7 +226,9 @@ seen-above t g h e =
     let f = a-few Q Q-two g h in
     let ge = above-ge Q Q-two g h in
     let le = above-le Q Q-two g h in
-    seen-of true t (g / (4 * Q)) (25165825 * Q - g) (low Q g h) (high Q g Q-pos) e f ge (weaker (g / (4 * Q)) (closest (25165825 * Q - g) (2 * Q)) le) (most (g / (4 * Q)) (closest (25165825 * Q - g) (2 * Q)) le, cut-above Q Q-two g h)
+    seen-of true t (g / (4 * Q)) (25165825 * Q - g) (low Q g h) (high Q g Q-pos) e f ge
+    (weaker (g / (4 * Q)) (closest (25165825 * Q - g) (2 * Q)) le)
+    (most (g / (4 * Q)) (closest (25165825 * Q - g) (2 * Q)) le, cut-above Q Q-two g h)
   where
     low : (P g : ℕ) → g ≤ 4194304 * P → 16777216 * P ≤ 25165825 * P - g
     low P g h = omega arith
@@ -237,13 +256,15 @@ added y w N v e = plus-middle y false w v ∙ ap (λ (x : ℕ). round binary32 f
 taken : (y : Float) (w N : ℕ) → HasValue y true w D → w < M → M - w ≡ N → add binary32 y middle ≡ round binary32 false N D
 unfolding sum
 taken y w N v h e =
-    plus-middle y true w v ∙ cond-yes (round binary32 false (M - w) D) (round binary32 (true && ltb M w) (w - M) D) (lt-ltb w M h) ∙ ap (λ (x : ℕ). round binary32 false x D) e
+    plus-middle y true w v ∙ cond-yes (round binary32 false (M - w) D) (round binary32 (true && ltb M w) (w - M) D) (lt-ltb w M h)
+    ∙ ap (λ (x : ℕ). round binary32 false x D) e
 
 pub seen : (b : Bool) (y : Float) (G : ℕ) → Less b y G → Seen b (add binary32 y middle) (G / (4 * Q))
 seen false y G l =
     subst (λ (a : ℕ). Seen false (add binary32 y middle) a) (l .same)
     (seen-below (add binary32 y middle) (l .g) (l .few)
-    (⊎-elim (λ h. added y (l .g - Q) (25165823 * Q + l .g) (h .1) (up Q (l .g) (h .0))) (λ h. taken y (Q - l .g) (25165823 * Q + l .g) (h .1) (less Q (l .g) Q-pos) (down Q (l .g) (h .0))) (l .at)))
+    (⊎-elim (λ h. added y (l .g - Q) (25165823 * Q + l .g) (h .1) (up Q (l .g) (h .0)))
+    (λ h. taken y (Q - l .g) (25165823 * Q + l .g) (h .1) (less Q (l .g) Q-pos) (down Q (l .g) (h .0))) (l .at)))
   where
     up : (P g : ℕ) → P ≤ g → g - P + 25165824 * P ≡ 25165823 * P + g
     up P g h = omega arith
@@ -256,7 +277,8 @@ seen false y G l =
 seen true y G l =
     subst (λ (a : ℕ). Seen true (add binary32 y middle) a) (l .same)
     (seen-above (add binary32 y middle) (l .g) (l .few)
-    (⊎-elim (λ h. taken y (l .g - Q) (25165825 * Q - l .g) (h .1) (less Q (l .g) Q-pos (l .few)) (down Q (l .g) (h .0))) (λ h. added y (Q - l .g) (25165825 * Q - l .g) (h .1) (up Q (l .g) (h .0))) (l .at)))
+    (⊎-elim (λ h. taken y (l .g - Q) (25165825 * Q - l .g) (h .1) (less Q (l .g) Q-pos (l .few)) (down Q (l .g) (h .0)))
+    (λ h. added y (Q - l .g) (25165825 * Q - l .g) (h .1) (up Q (l .g) (h .0))) (l .at)))
   where
     up : (P g : ℕ) → g ≤ P → P - g + 25165824 * P ≡ 25165825 * P - g
     up P g h = omega arith

@@ -1,5 +1,5 @@
--- Mixes to whose values parts are added one by one, in any order: `place k` is when value k has its turn. After t turns those before have their sums, the others are as they were.
--- Assumes nothing.
+-- Mixes to whose values parts are added one by one, in any order: `place k` is when value k has its turn. After t turns those before have
+-- their sums, the others are as they were. Assumes nothing.
 use mathlib.Core.Path.{_≡_, refl, sym, ap, _∙_, subst}
 use mathlib.Core.Bool.{Bool, true, false, cond}
 use mathlib.Core.List.{List}
@@ -32,7 +32,9 @@ module _ (place : ℕ → ℕ) (part : ℕ → ℤ) (old : List ℤ) where
       none : (n : ℕ) → n < 0 → ⊥
       none n h = omega arith
 
-  pub been-more : (t j : ℕ) (l : List ℤ) (n : ℤ) → Been place part old t l → j < length old → place j ≡ t → ((k : ℕ) → k < length old → place k ≡ t → k ≡ j) → n ≡ part j
+  pub been-more :
+      (t j : ℕ) (l : List ℤ) (n : ℤ) → Been place part old t l → j < length old → place j ≡ t
+      → ((k : ℕ) → k < length old → place k ≡ t → k ≡ j) → n ≡ part j
       → Been place part old (t + 1) (bump l j n)
   been-more t j l n b h at only e = record {
     same = length-set l j x ∙ b .same;
@@ -46,7 +48,9 @@ module _ (place : ℕ → ℕ) (part : ℕ → ℤ) (old : List ℤ) where
       inside : j < length l
       inside = omega (arith, b .same)
 
-      by-done : (k : ℕ) → k < length old → place k < t + 1 → (c : Bool) → eqb k j ≡ c → getD (set l j x) k (pos 0) ≡ summed (getD old k (pos 0)) (part k)
+      by-done :
+          (k : ℕ) → k < length old → place k < t + 1 → (c : Bool) → eqb k j ≡ c
+          → getD (set l j x) k (pos 0) ≡ summed (getD old k (pos 0)) (part k)
       by-done k kl p true q =
           ap (λ (i : ℕ). getD (set l j x) i (pos 0)) (eqb-true k j q)
           ∙ getD-set-same l j x (pos 0) inside
@@ -71,7 +75,8 @@ module _ (place : ℕ → ℕ) (part : ℕ → ℤ) (old : List ℤ) where
   pub been-all : (t : ℕ) (l : List ℤ) → length old ≡ 1920 → ((k : ℕ) → k < 1920 → place k < t) → Been place part old t l
       → l ≡ tabulate (λ k. summed (getD old k (pos 0)) (part k)) 1920
   been-all t l long all b =
-      tabulated l (λ k. summed (getD old k (pos 0)) (part k)) 1920 (pos 0) (b .same ∙ long) (λ k h. b .done k (subst (λ (n : ℕ). k < n) (sym long) h) (all k h))
+      tabulated l (λ k. summed (getD old k (pos 0)) (part k)) 1920 (pos 0) (b .same ∙ long)
+      (λ k h. b .done k (subst (λ (n : ℕ). k < n) (sym long) h) (all k h))
 
 -- ---- one mix, sample by sample, and of a sample channel by channel
 abbrev pub inMix : ℕ → ℕ → ℕ
@@ -96,7 +101,9 @@ module _ (m : ℕ) (part : ℕ → ℤ) (old : List ℤ) (small : m < 3) (long :
   abbrev pub Mixing : ℕ → List ℤ → Type 0
   Mixing i l = Been (inMix m) part old (i * 4) l
 
-  step : (i c t j : ℕ) (l : List ℤ) (n : ℤ) → i < 160 → c < 4 → t ≡ i * 4 + c → j ≡ m * 640 + i + c * 160 → Been (inMix m) part old t l → n ≡ part j → Been (inMix m) part old (t + 1) (bump l j n)
+  step :
+      (i c t j : ℕ) (l : List ℤ) (n : ℤ) → i < 160 → c < 4 → t ≡ i * 4 + c → j ≡ m * 640 + i + c * 160 → Been (inMix m) part old t l
+      → n ≡ part j → Been (inMix m) part old (t + 1) (bump l j n)
   step i c t j l n h k te je b e = been-more (inMix m) part old t j l n b inside at only e
     where
       inside : j < length old
@@ -135,26 +142,36 @@ module _ (m : ℕ) (part : ℕ → ℤ) (old : List ℤ) (small : m < 3) (long :
 
   pub mixed-is : (i : ℕ) (l : List ℤ) → i ≤ 160 → 160 ≤ i → Mixing i l → l ≡ mixed m part old
   unfolding mixed
-  mixed-is i l some all b = tabulated l (λ k. cond (eqb (k / 640) m) (summed (getD old k (pos 0)) (part k)) (getD old k (pos 0))) 1920 (pos 0) (b .same ∙ long) (λ k h. go k h (eqb (k / 640) m) refl)
+  mixed-is i l some all b =
+      tabulated l (λ k. cond (eqb (k / 640) m) (summed (getD old k (pos 0)) (part k)) (getD old k (pos 0))) 1920 (pos 0) (b .same ∙ long)
+      (λ k h. go k h (eqb (k / 640) m) refl)
     where
-      go : (k : ℕ) → k < 1920 → (c : Bool) → eqb (k / 640) m ≡ c → getD l k (pos 0) ≡ cond c (summed (getD old k (pos 0)) (part k)) (getD old k (pos 0))
+      go :
+          (k : ℕ) → k < 1920 → (c : Bool) → eqb (k / 640) m ≡ c
+          → getD l k (pos 0) ≡ cond c (summed (getD old k (pos 0)) (part k)) (getD old k (pos 0))
       go k h true e = b .done k (omega (arith, long)) (omega (arith, eqb-true (k / 640) m e))
       go k h false e = b .left k (omega (arith, long)) far
         where
           far : i * 4 ≤ k % 160 * 4 + k % 640 / 160 + 640 * (k / 640 - m + (m - k / 640))
-          far = ⊎-elim (λ w. absurd (eqb-false (k / 640) m e (omega arith))) (λ w. w) (below-or (k % 160 * 4 + k % 640 / 160 + 640 * (k / 640 - m + (m - k / 640))) (i * 4))
+          far =
+              ⊎-elim (λ w. absurd (eqb-false (k / 640) m e (omega arith))) (λ w. w)
+              (below-or (k % 160 * 4 + k % 640 / 160 + 640 * (k / 640 - m + (m - k / 640))) (i * 4))
 
 -- ---- all mixes, one after the other
 abbrev pub byMix : ℕ → ℕ
 byMix k = k / 640
 
 module _ (part : ℕ → ℤ) (old : List ℤ) (long : length old ≡ 1920) where
-  next-mix : (m : ℕ) (l : List ℤ) (own : ℕ → ℤ) → Been byMix part old m l → ((k : ℕ) → k / 640 ≡ m → own k ≡ part k) → Been byMix part old (m + 1) (mixed m own l)
+  next-mix :
+      (m : ℕ) (l : List ℤ) (own : ℕ → ℤ) → Been byMix part old m l → ((k : ℕ) → k / 640 ≡ m → own k ≡ part k)
+      → Been byMix part old (m + 1) (mixed m own l)
   unfolding mixed
   next-mix m l own b e = record {
     same = length-tabulate f 1920 ∙ sym long;
     done = λ k h p. getD-tabulate f 1920 k (pos 0) (within k h) ∙ done k h p (eqb (k / 640) m) refl;
-    left = λ k h p. getD-tabulate f 1920 k (pos 0) (within k h) ∙ cond-no (summed (getD l k (pos 0)) (own k)) (getD l k (pos 0)) (ne-eqb (k / 640) m (late k p)) ∙ b .left k h (later k p);
+    left =
+        λ k h p. getD-tabulate f 1920 k (pos 0) (within k h)
+        ∙ cond-no (summed (getD l k (pos 0)) (own k)) (getD l k (pos 0)) (ne-eqb (k / 640) m (late k p)) ∙ b .left k h (later k p);
   }
     where
       f : ℕ → ℤ
@@ -169,7 +186,9 @@ module _ (part : ℕ → ℤ) (old : List ℤ) (long : length old ≡ 1920) wher
       later : (k : ℕ) → m + 1 ≤ k / 640 → m ≤ k / 640
       later k p = omega arith
 
-      done : (k : ℕ) → k < length old → k / 640 < m + 1 → (c : Bool) → eqb (k / 640) m ≡ c → cond c (summed (getD l k (pos 0)) (own k)) (getD l k (pos 0)) ≡ summed (getD old k (pos 0)) (part k)
+      done :
+          (k : ℕ) → k < length old → k / 640 < m + 1 → (c : Bool) → eqb (k / 640) m ≡ c
+          → cond c (summed (getD l k (pos 0)) (own k)) (getD l k (pos 0)) ≡ summed (getD old k (pos 0)) (part k)
       done k h p true q = λ i. summed (b .left k h (now (eqb-true (k / 640) m q)) i) (e k (eqb-true (k / 640) m q) i)
         where
           now : k / 640 ≡ m → m ≤ k / 640
@@ -196,7 +215,8 @@ pub row-is : (gains : List Float) (m k : ℕ) → k / 640 ≡ m
 row-is gains m k e = go (eqb (k % 640 / 160) 0) (eqb (k % 640 / 160) 1) (eqb (k % 640 / 160) 2) refl refl refl
   where
     go : (x y z : Bool) → eqb (k % 640 / 160) 0 ≡ x → eqb (k % 640 / 160) 1 ≡ y → eqb (k % 640 / 160) 2 ≡ z
-        → cond x (getD gains (m * 4) nan) (cond y (getD gains (m * 4 + 1) nan) (cond z (getD gains (m * 4 + 2) nan) (getD gains (m * 4 + 3) nan))) ≡ getD gains (k / 160) nan
+        → cond x (getD gains (m * 4) nan)
+        (cond y (getD gains (m * 4 + 1) nan) (cond z (getD gains (m * 4 + 2) nan) (getD gains (m * 4 + 3) nan))) ≡ getD gains (k / 160) nan
     go true y z p q r = ap (λ (n : ℕ). getD gains n nan) (at (eqb-true (k % 640 / 160) 0 p))
       where
         at : k % 640 / 160 ≡ 0 → m * 4 ≡ k / 160
@@ -209,7 +229,9 @@ row-is gains m k e = go (eqb (k % 640 / 160) 0) (eqb (k % 640 / 160) 1) (eqb (k 
       where
         at : k % 640 / 160 ≡ 2 → m * 4 + 2 ≡ k / 160
         at w = omega arith
-    go false false false p q r = ap (λ (n : ℕ). getD gains n nan) (at (eqb-false (k % 640 / 160) 0 p) (eqb-false (k % 640 / 160) 1 q) (eqb-false (k % 640 / 160) 2 r))
+    go false false false p q r =
+        ap (λ (n : ℕ). getD gains n nan)
+        (at (eqb-false (k % 640 / 160) 0 p) (eqb-false (k % 640 / 160) 1 q) (eqb-false (k % 640 / 160) 2 r))
       where
         last : (c : ℕ) → c < 4 → (c ≡ 0 → ⊥) → (c ≡ 1 → ⊥) → (c ≡ 2 → ⊥) → c ≡ 3
         last c h x y z = omega (arith, x, y, z)
@@ -237,10 +259,13 @@ module _ (gains : List Float) (frame old : List ℤ) (long : length old ≡ 1920
   abbrev pub Together : ℕ → List ℤ → Type 0
   Together t l = Been atOnce (λ k. partAt gains frame k) old t l
 
-  one : (i c t j p : ℕ) (l : List ℤ) → i < 160 → c < 12 → t ≡ i * 12 + c → j ≡ c * 160 + i → p ≡ i * 2 + c % 2 → Together t l → Together (t + 1) (bump l j (at-gain (getD gains c nan) (getD frame p (pos 0))))
+  one :
+      (i c t j p : ℕ) (l : List ℤ) → i < 160 → c < 12 → t ≡ i * 12 + c → j ≡ c * 160 + i → p ≡ i * 2 + c % 2 → Together t l
+      → Together (t + 1) (bump l j (at-gain (getD gains c nan) (getD frame p (pos 0))))
   one i c t j p l h k te je pe b =
       let u = digits-160 i c j h je in
-      been-more atOnce part old t j l (at-gain (getD gains c nan) (getD frame p (pos 0))) b inside (ap (λ (x : ℕ). x * 12 + j / 160) (u .0) ∙ ap (λ (x : ℕ). i * 12 + x) (u .1) ∙ sym te) only
+      been-more atOnce part old t j l (at-gain (getD gains c nan) (getD frame p (pos 0))) b inside
+      (ap (λ (x : ℕ). x * 12 + j / 160) (u .0) ∙ ap (λ (x : ℕ). i * 12 + x) (u .1) ∙ sym te) only
       (λ n. at-gain (getD gains (sym (u .1) n) nan) (getD frame (place (u .0) (u .1) n) (pos 0)))
     where
       place : j % 160 ≡ i → j / 160 ≡ c → p ≡ j % 160 * 2 + j / 160 % 2
@@ -280,12 +305,14 @@ module _ (gains : List Float) (frame old : List ℤ) (long : length old ≡ 1920
 
   -- the same by a call that says what it left
   called : (m i t at : ℕ) (l r : List ℤ) (a b : ℤ) (g : Gains) → m < 3 → i < 160 → t ≡ i * 12 + m * 4 → at ≡ m * 640 + i → Together t l
-      → a ≡ getD frame (i * 2) (pos 0) → b ≡ getD frame (i * 2 + 1) (pos 0) → g ≡ gainsOf gains m → r ≡ paired g a b at l → Together (t + 4) r
+      → a ≡ getD frame (i * 2) (pos 0) → b ≡ getD frame (i * 2 + 1) (pos 0) → g ≡ gainsOf gains m → r ≡ paired g a b at l
+      → Together (t + 4) r
   called m i t at l r a b g small h te ae w p q k e =
       subst (λ (x : List ℤ). Together (t + 4) x) (sym (e ∙ (λ j. paired (k j) (p j) (q j) at l))) (quad m i t at l small h te ae w)
 
   pub turn-all : (i : ℕ) (l l0 l1 l2 : List ℤ) (a b : ℤ) (g0 g1 g2 : Gains) → i < 160 → Together (i * 12) l
-      → a ≡ getD frame (i * 2) (pos 0) → b ≡ getD frame (i * 2 + 1) (pos 0) → g0 ≡ gainsOf gains 0 → g1 ≡ gainsOf gains 1 → g2 ≡ gainsOf gains 2
+      → a ≡ getD frame (i * 2) (pos 0) → b ≡ getD frame (i * 2 + 1) (pos 0) → g0 ≡ gainsOf gains 0 → g1 ≡ gainsOf gains 1
+      → g2 ≡ gainsOf gains 2
       → l0 ≡ paired g0 a b i l → l1 ≡ paired g1 a b (i + 640) l0 → l2 ≡ paired g2 a b (i + 1280) l1 → Together ((i + 1) * 12) l2
   turn-all i l l0 l1 l2 a b g0 g1 g2 h w p q k0 k1 k2 e0 e1 e2 =
       let b0 = called 0 i (i * 12) i l l0 a b g0 (omega arith) h (omega arith) (omega arith) w p q k0 e0 in
@@ -296,7 +323,9 @@ module _ (gains : List Float) (frame old : List ℤ) (long : length old ≡ 1920
       twelve : i * 12 + 4 + 4 + 4 ≡ (i + 1) * 12
       twelve = omega arith
 
-  pub all-at-once : (i : ℕ) (l : List ℤ) → i ≤ 160 → 160 ≤ i → Together (i * 12) l → l ≡ tabulate (λ k. summed (getD old k (pos 0)) (partAt gains frame k)) 1920
+  pub all-at-once :
+      (i : ℕ) (l : List ℤ) → i ≤ 160 → 160 ≤ i → Together (i * 12) l
+      → l ≡ tabulate (λ k. summed (getD old k (pos 0)) (partAt gains frame k)) 1920
   all-at-once i l some all b = been-all atOnce (λ k. partAt gains frame k) old (i * 12) l long in-time b
     where
       in-time : (k : ℕ) → k < 1920 → k % 160 * 12 + k / 160 < i * 12

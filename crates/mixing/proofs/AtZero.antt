@@ -1,4 +1,5 @@
--- At a fraction of 0.0, of either sign, what is between two samples is the first: so the source's test for it may be left out. Assumes nothing.
+-- At a fraction of 0.0, of either sign, what is between two samples is the first: so the source's test for it may be left out. Assumes
+-- nothing.
 use mathlib.Core.Path.{_≡_, refl, sym, ap, _∙_, subst}
 use mathlib.Core.Bool.{Bool, true, false, not, _&&_, cond, Bool·beq}
 use Prim.Native.Nat.{ℕ, zero, suc, _+_, _-_, _*_, _^_, _≤_, _<_}
@@ -48,7 +49,8 @@ more-zero n = omega arith
 sum-zero : (f : Format) (z : ℤ) (u : Bool) → sum f (below-0 z) (natAbs z) u 0 1 ≡ ofInt f z
 unfolding sum ofInt
 sum-zero f (pos n) false = ap (λ (k : ℕ). round f false k 1) (more-zero n)
-sum-zero f (pos n) true = cond-no (round f true (0 - n) 1) (round f false (n - 0) 1) (le-ltb n 0 (omega arith)) ∙ ap (λ (k : ℕ). round f false k 1) (less-zero n)
+sum-zero f (pos n) true =
+    cond-no (round f true (0 - n) 1) (round f false (n - 0) 1) (le-ltb n 0 (omega arith)) ∙ ap (λ (k : ℕ). round f false k 1) (less-zero n)
 sum-zero f (negsuc n) true = ap (λ (k : ℕ). round f true k 1) (more-zero (suc n))
 sum-zero f (negsuc n) false =
     cond-no (round f false (0 - suc n) 1) (round f (true && ltb 0 (suc n)) (suc n - 0) 1) (le-ltb (suc n) 0 (omega arith))
@@ -60,13 +62,15 @@ unfolding eq
 zero-value nan e = absurd (subst T (sym e) tt)
 zero-value (inf s) e = absurd (subst T (sym e) tt)
 zero-value (fin s m k) e =
-    let z : m * up k * 1 ≡ 0 * 1 * down k = eqb→eq (m * up k * 1) (0 * 1 * down k) (and-l (eqb (m * up k * 1) (0 * 1 * down k)) _ (subst T (sym e) tt)) in
+    let z : m * up k * 1 ≡ 0 * 1 * down k = eqb→eq (m * up k * 1) (0 * 1 * down k)
+    (and-l (eqb (m * up k * 1) (0 * 1 * down k)) _ (subst T (sym e) tt)) in
     (s, (refl, z))
 
 product-zero : (d t : Float) → Whole d → (u : Bool) × HasValue t u 0 1 → (v : Bool) × HasValue (mul binary64 d t) v 0 1
 product-zero d t w z =
     let u = unlike (w .0) (z .0) in
-    let e = mul-value binary64 d t (w .0) (z .0) (w .1) 0 1 1 (zero-lt-suc 0) (zero-lt-suc 0) (w .2) (z .1) ∙ ap (λ (k : ℕ). round binary64 u k 1) (mul-zero (w .1)) in
+    let e = mul-value binary64 d t (w .0) (z .0) (w .1) 0 1 1 (zero-lt-suc 0) (zero-lt-suc 0) (w .2) (z .1)
+    ∙ ap (λ (k : ℕ). round binary64 u k 1) (mul-zero (w .1)) in
     (u, subst (λ (x : Float). HasValue x u 0 1) (sym e) (round-whole binary64 u 0 (omega arith)))
 
 few : (z : ℤ) → mag z < 32768 → natAbs z ≤ 32768
@@ -80,7 +84,9 @@ interpolate-at-zero a b t ha hb e =
     let va = int-value binary64 a (omega arith) in
     let vb = int-value binary64 b (omega arith) in
     let d = sub-value binary64 (double b) (double a) (below-0 b) (below-0 a) (natAbs b) (natAbs a) 1 (zero-lt-suc 0) vb va in
-    let w : Whole (sub binary64 (double b) (double a)) = subst Whole (sym d) (sum-whole binary64 (below-0 b) (natAbs b) (not (below-0 a)) (natAbs a) (omega arith)) in
+    let w : Whole (sub binary64 (double b) (double a)) = subst Whole (sym d)
+    (sum-whole binary64 (below-0 b) (natAbs b) (not (below-0 a)) (natAbs a) (omega arith)) in
     let p = product-zero (sub binary64 (double b) (double a)) t w (zero-value t e) in
-    ap cast-i16 (add-value binary64 (double a) (mul binary64 (sub binary64 (double b) (double a)) t) (below-0 a) (p .0) (natAbs a) 0 1 (zero-lt-suc 0) va (p .1) ∙ sum-zero binary64 a (p .0))
+    ap cast-i16 (add-value binary64 (double a) (mul binary64 (sub binary64 (double b) (double a)) t) (below-0 a) (p .0) (natAbs a) 0 1
+    (zero-lt-suc 0) va (p .1) ∙ sum-zero binary64 a (p .0))
     ∙ signed-back a ha .1

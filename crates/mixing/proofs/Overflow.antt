@@ -25,7 +25,8 @@ times-zero nan = refl
 times-zero (inf s) = refl
 times-zero (fin s m e) =
     at-zero (fin s m e)
-    (round-reach binary32 (unlike s false) (m * up e * 0) (down e * 1) 0 (some (down e) (down-pos e)) (none (m * up e) (down e * 1)) (lit< tt))
+    (round-reach binary32 (unlike s false) (m * up e * 0) (down e * 1) 0 (some (down e) (down-pos e)) (none (m * up e) (down e * 1))
+    (lit< tt))
   where
     some : (d : ℕ) → 0 < d → 0 < d * 1
     some d h = omega arith

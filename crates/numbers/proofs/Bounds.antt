@@ -1,4 +1,5 @@
--- How large a sum and a product of whole numbers can be, by their absolute values, so that a bound is one of ℕ and `omega` reads it. Assumes nothing.
+-- How large a sum and a product of whole numbers can be, by their absolute values, so that a bound is one of ℕ and `omega` reads it.
+-- Assumes nothing.
 use mathlib.Core.Path.{_≡_, refl, sym, ap, _∙_, subst}
 use mathlib.Core.Logic.{⊎-elim}
 use Prim.Native.Nat.{ℕ, zero, suc, _+_, _-_, _*_, _^_, _≤_, _<_}
@@ -109,5 +110,8 @@ result-read w z h = toZ-ofZ (record { sfits = h })
 -- a shift to the right of such a result
 pub shr-read : (w : Width) (z : ℤ) (m : ℕ) → mag z < 2 ^ hbits w → toZ w (ofZ w (shrZ (toZ w (ofZ w z)) m)) ≡ shrZ z m
 shr-read w z m h =
-    toZ-ofZ (record { sfits = lt-of-le-of-lt (mag-shr (toZ w (ofZ w z)) m) (subst (λ (y : ℤ). mag y < 2 ^ hbits w) (sym (result-read w z h)) h) })
+    toZ-ofZ (record {
+      sfits = lt-of-le-of-lt (mag-shr (toZ w (ofZ w z)) m)
+          (subst (λ (y : ℤ). mag y < 2 ^ hbits w) (sym (result-read w z h)) h);
+    })
     ∙ ap (λ (y : ℤ). shrZ y m) (result-read w z h)

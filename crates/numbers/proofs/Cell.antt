@@ -1,10 +1,11 @@
--- A rounded fraction never crosses a multiple of 2 ^ g units, where 2 ^ g is no finer than what the format keeps at its size: it is the nearest multiple of some
--- 2 ^ k with k at most g. A unit is the format's smallest value, 2 ^ -low. Assumes nothing.
+-- A rounded fraction never crosses a multiple of 2 ^ g units, where 2 ^ g is no finer than what the format keeps at its size: it is the
+-- nearest multiple of some 2 ^ k with k at most g. A unit is the format's smallest value, 2 ^ -low. Assumes nothing.
 use mathlib.Core.Path.{_≡_, refl, sym, ap, _∙_}
 use mathlib.Core.Bool.{Bool}
 use mathlib.Core.Logic.{⊎-elim}
 use Prim.Native.Nat.{ℕ, suc, _+_, _-_, _*_, _/_, _%_, _^_, _≤_, _<_}
-use native.Mathlib.Nat.{le-trans, le-of-eq, lt-of-lt-of-le, not-le-of-lt, mul-one, mul-comm, mul-assoc, mul-pos, mul-le-mul-right, le-div-iff-mul-le, div-lt-iff-lt-mul, zero-lt-suc}
+use native.Mathlib.Nat.{le-trans, le-of-eq, lt-of-lt-of-le, not-le-of-lt, mul-one, mul-comm, mul-assoc, mul-pos, mul-le-mul-right}
+use native.Mathlib.Nat.{le-div-iff-mul-le, div-lt-iff-lt-mul, zero-lt-suc}
 use native.Mathlib.Omega.{arith}
 use lib.Pow.{pow-pos, pow-add, pow-mono}
 use lib.Ieee.{Format, prec, low, size, round}
@@ -42,13 +43,16 @@ module _ (f : Format) (n d g : ℕ) (D : 0 < d) (small : n * 2 ^ low f < 2 ^ (pr
 
   -- where it has as many digits as the format keeps and g more, k is g
   pub drops-all : (h : ℕ) → prec f ≡ suc h → 2 ^ (h + g) * d ≤ N → k ≡ g
-  drops-all h P least = both k (size (N / d)) (prec f) g drops refl (⊎-elim (λ x. absurd (few x)) (λ x. x) (below-or (size (N / d)) (prec f + g)))
+  drops-all h P least =
+      both k (size (N / d)) (prec f) g drops refl (⊎-elim (λ x. absurd (few x)) (λ x. x) (below-or (size (N / d)) (prec f + g)))
     where
       both : (k z p l : ℕ) → k ≤ l → k ≡ z - p → p + l ≤ z → k ≡ l
       both k z p l x e y = omega arith
 
       few : size (N / d) < prec f + g → ⊥
-      few x = not-le-of-lt (lt-of-lt-of-le (size-lt (N / d)) (pow-mono {i = size (N / d)} {j = h + g} (under (size (N / d)) (prec f) x P))) (le-div-iff-mul-le D .1 least)
+      few x =
+          not-le-of-lt (lt-of-lt-of-le (size-lt (N / d)) (pow-mono {i = size (N / d)} {j = h + g} (under (size (N / d)) (prec f) x P)))
+          (le-div-iff-mul-le D .1 least)
         where
           under : (z p : ℕ) → z < p + g → p ≡ suc h → z ≤ h + g
           under z p x e = omega arith
@@ -59,16 +63,20 @@ module _ (f : Format) (n d g : ℕ) (D : 0 < d) (small : n * 2 ^ low f < 2 ^ (pr
 
   -- and as a fraction over d * 2 ^ k
   across : (c : ℕ) → c * 2 ^ g * d ≡ c * 2 ^ (g - k) * (d * 2 ^ k)
-  across c = ap (λ (x : ℕ). x * d) (sym (in-k c)) ∙ mul-assoc (c * 2 ^ (g - k)) (2 ^ k) d ∙ ap (λ (x : ℕ). c * 2 ^ (g - k) * x) (mul-comm (2 ^ k) d)
+  across c =
+      ap (λ (x : ℕ). x * d) (sym (in-k c)) ∙ mul-assoc (c * 2 ^ (g - k)) (2 ^ k) d
+      ∙ ap (λ (x : ℕ). c * 2 ^ (g - k) * x) (mul-comm (2 ^ k) d)
 
   pub cell-le : (c : ℕ) → N ≤ c * 2 ^ g * d → grid f n d ≤ c * 2 ^ g
   cell-le c h =
       let m = c * 2 ^ (g - k) in
-      let e : closest N (d * 2 ^ k) ≤ closest m 1 = closest-mono N (d * 2 ^ k) m 1 (mul-pos D (pow-pos k)) (zero-lt-suc 0) (le-trans (le-of-eq (mul-one N)) (le-trans h (le-of-eq (across c)))) in
+      let e : closest N (d * 2 ^ k) ≤ closest m 1 = closest-mono N (d * 2 ^ k) m 1 (mul-pos D (pow-pos k)) (zero-lt-suc 0)
+      (le-trans (le-of-eq (mul-one N)) (le-trans h (le-of-eq (across c)))) in
       le-trans (mul-le-mul-right (2 ^ k) (le-trans e (le-of-eq (whole-closest m)))) (le-of-eq (in-k c))
 
   pub cell-ge : (c : ℕ) → c * 2 ^ g * d ≤ N → c * 2 ^ g ≤ grid f n d
   cell-ge c h =
       let m = c * 2 ^ (g - k) in
-      let e : closest m 1 ≤ closest N (d * 2 ^ k) = closest-mono m 1 N (d * 2 ^ k) (zero-lt-suc 0) (mul-pos D (pow-pos k)) (le-trans (le-of-eq (sym (across c))) (le-trans h (le-of-eq (sym (mul-one N))))) in
+      let e : closest m 1 ≤ closest N (d * 2 ^ k) = closest-mono m 1 N (d * 2 ^ k) (zero-lt-suc 0) (mul-pos D (pow-pos k))
+      (le-trans (le-of-eq (sym (across c))) (le-trans h (le-of-eq (sym (mul-one N))))) in
       le-trans (le-of-eq (sym (in-k c))) (mul-le-mul-right (2 ^ k) (le-trans (le-of-eq (sym (whole-closest m))) e))

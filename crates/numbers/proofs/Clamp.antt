@@ -40,5 +40,7 @@ module _ (w : Width) (v : ℤ) (f : SFits w v) where
   pub held-fits : ltZ (toZ w (ofZ w v)) (negsuc 32767) ≡ false → ltZ (pos 32767) (toZ w (ofZ w v)) ≡ false → SFits w16 (toZ w (ofZ w v))
   held-fits s t = subst (λ (z : ℤ). SFits w16 z) (sym (toZ-ofZ f)) (between v (low false s) (high false t))
 
-  pub held : ltZ (toZ w (ofZ w v)) (negsuc 32767) ≡ false → ltZ (pos 32767) (toZ w (ofZ w v)) ≡ false → toZ w16 (ofZ w16 (toZ w (ofZ w v))) ≡ clamp16 v
+  pub held :
+      ltZ (toZ w (ofZ w v)) (negsuc 32767) ≡ false → ltZ (pos 32767) (toZ w (ofZ w v)) ≡ false
+      → toZ w16 (ofZ w16 (toZ w (ofZ w v))) ≡ clamp16 v
   held s t = toZ-ofZ (held-fits s t) ∙ toZ-ofZ f ∙ sym (cond-no (negsuc 32767) _ (low false s) ∙ cond-no (pos 32767) _ (high false t))

@@ -1,9 +1,12 @@
--- The whole part of a number from 0 to M by two additions, in either format: at 2 ^ h and above (h = 23 in f32, 52 in f64) it has no digit below 1, so
--- a + 2 ^ h is a whole number next to it, and 2 ^ h comes off it exactly. What is left is the whole part, or one more where it lies above a. Assumes nothing.
+-- The whole part of a number from 0 to M by two additions, in either format: at 2 ^ h and above (h = 23 in f32, 52 in f64) it has no digit
+-- below 1, so a + 2 ^ h is a whole number next to it, and 2 ^ h comes off it exactly. What is left is the whole part, or one more where it
+-- lies above a. Assumes nothing.
 use mathlib.Core.Path.{_≡_, refl, sym, ap, _∙_, subst}
 use mathlib.Core.Bool.{Bool, true, false, _&&_}
 use Prim.Native.Nat.{ℕ, zero, suc, _+_, _-_, _*_, _/_, _^_, _≤_, _<_}
-use native.Mathlib.Nat.{le-trans, le-of-eq, lt-of-lt-of-le, lt-of-le-of-lt, mul-one, one-mul, zero-mul, zero-add, mul-comm, mul-assoc, mul-right-comm, mul-pos, mul-le-mul-right, mul-lt-mul-of-pos-right, le-of-mul-le-mul-right, lt-of-mul-lt-mul-right, eq-of-mul-eq-mul-right, le-div-iff-mul-le, div-mul-le-self, div-lt-iff-lt-mul, zero-lt-suc, add-mul, pow-succ'}
+use native.Mathlib.Nat.{le-trans, le-of-eq, lt-of-lt-of-le, lt-of-le-of-lt, mul-one, one-mul, zero-mul, zero-add, mul-comm, mul-assoc}
+use native.Mathlib.Nat.{mul-right-comm, mul-pos, mul-le-mul-right, mul-lt-mul-of-pos-right, le-of-mul-le-mul-right, lt-of-mul-lt-mul-right}
+use native.Mathlib.Nat.{eq-of-mul-eq-mul-right, le-div-iff-mul-le, div-mul-le-self, div-lt-iff-lt-mul, zero-lt-suc, add-mul, pow-succ'}
 use native.Mathlib.Omega.{arith}
 use lib.IntN.{ℤ, pos, negℤ}
 use lib.Dec.{ltb}
@@ -29,7 +32,11 @@ big h = fin false 1 (pos h)
 lowered : (x : Float) (s : Bool) (a k : ℕ) → 0 < k → HasValue x s (a * k) k → HasValue x s a 1
 lowered nan s a k K h = h
 lowered (inf t) s a k K h = h
-lowered (fin t m e) s a k K h = (h .0, eq-of-mul-eq-mul-right k K (m * up e * 1) (a * down e) (mul-right-comm (m * up e) 1 k ∙ mul-one (m * up e * k) ∙ h .1 ∙ mul-right-comm a k (down e)))
+lowered (fin t m e) s a k K h = (
+  h .0,
+  eq-of-mul-eq-mul-right k K (m * up e * 1) (a * down e)
+      (mul-right-comm (m * up e) 1 k ∙ mul-one (m * up e * k) ∙ h .1 ∙ mul-right-comm a k (down e)),
+)
 
 -- sums at L times the size
 pub times-lt : (n P q L : ℕ) → 0 < L → n < P * q → n * L < P * L * q
@@ -89,7 +96,9 @@ module _ (f : Format) (h : ℕ) (P : prec f ≡ suc h) (E : h ≤ emax f) where
         one-more = omega arith
 
     room : n * L < 2 ^ (prec f + low f) * q
-    room = subst (λ (x : ℕ). n * L < x * q) (sym (pow-add 2 (prec f) (low f))) (times-lt n (2 ^ prec f) q L (pow-pos (low f)) (subst (λ (x : ℕ). n < x * q) (sym double) less))
+    room =
+        subst (λ (x : ℕ). n * L < x * q) (sym (pow-add 2 (prec f) (low f)))
+        (times-lt n (2 ^ prec f) q L (pow-pos (low f)) (subst (λ (x : ℕ). n < x * q) (sym double) less))
       where
         most : M * q < B * q
         most = mul-lt-mul-of-pos-right (omega (arith, fit)) Q
@@ -110,7 +119,9 @@ module _ (f : Format) (h : ℕ) (P : prec f ≡ suc h) (E : h ≤ emax f) where
     grid-is = ap (λ (k : ℕ). K * 2 ^ k) drop-is
 
     K-ge : B + fl ≤ K
-    K-ge = le-of-mul-le-mul-right (subst (λ (g : ℕ). (B + fl) * L ≤ g) grid-is (cell-ge f n q (low f) Q room (B + fl) (times-ge n (B + fl) q L under))) (pow-pos (low f))
+    K-ge =
+        le-of-mul-le-mul-right (subst (λ (g : ℕ). (B + fl) * L ≤ g) grid-is
+        (cell-ge f n q (low f) Q room (B + fl) (times-ge n (B + fl) q L under))) (pow-pos (low f))
       where
         under : (B + fl) * q ≤ n
         under = rw (add-mul B fl q) (omega (arith, fl-le))
@@ -127,7 +138,9 @@ module _ (f : Format) (h : ℕ) (P : prec f ≡ suc h) (E : h ≤ emax f) where
     rounded : HasValue (round f false n q) false K 1
     rounded =
         lowered (round f false n q) false K L (pow-pos (low f))
-        (subst (λ (g : ℕ). HasValue (round f false n q) false g L) grid-is (round-value f false n q (lt-of-le-of-lt grid-le (subst (λ (x : ℕ). (B + (fl + 1)) * L < x) all (mul-lt-mul-of-pos-right far (pow-pos (low f)))))))
+        (subst (λ (g : ℕ). HasValue (round f false n q) false g L) grid-is
+        (round-value f false n q (lt-of-le-of-lt grid-le
+        (subst (λ (x : ℕ). (B + (fl + 1)) * L < x) all (mul-lt-mul-of-pos-right far (pow-pos (low f)))))))
       where
         far : B + (fl + 1) < 2 ^ suc (emax f)
         far = lt-of-lt-of-le (rw (pow-succ' 2 h) (omega (arith, fl-most, fit))) (pow-mono {i = suc h} {j = suc (emax f)} (omega (arith, E)))
@@ -136,7 +149,9 @@ module _ (f : Format) (h : ℕ) (P : prec f ≡ suc h) (E : h ≤ emax f) where
         all = mul-comm (2 ^ suc (emax f)) L ∙ sym (pow-add 2 (low f) (suc (emax f)))
 
     taken-off : sub f (round f false n q) (big h) ≡ ofInt f (pos (K - B))
-    taken-off = sub-value f (round f false n q) (big h) false false K B 1 (zero-lt-suc 0) rounded (refl, ap (λ (x : ℕ). x * 1) (one-mul B)) ∙ off-exact f K B enough
+    taken-off =
+        sub-value f (round f false n q) (big h) false false K B 1 (zero-lt-suc 0) rounded (refl, ap (λ (x : ℕ). x * 1) (one-mul B))
+        ∙ off-exact f K B enough
       where
         enough : B ≤ K
         enough = le-trans at-least K-ge
@@ -160,9 +175,12 @@ below-is s p n q d k D z e = go s z
 
     go : (s : Bool) → (s ≡ true → p ≡ 0) → below s (p * d) false (n * q) ≡ ltb p (k * q)
     go false z = ap (ltb (p * d)) across ∙ scaled-less p (k * q) d D
-    go true z = rw (z refl, zero-mul d, zero-add (n * q), across) (ap (λ (x : ℕ). ltb x (k * q * d)) (sym (zero-mul d)) ∙ scaled-less 0 (k * q) d D)
+    go true z =
+        rw (z refl, zero-mul d, zero-add (n * q), across) (ap (λ (x : ℕ). ltb x (k * q * d)) (sym (zero-mul d)) ∙ scaled-less 0 (k * q) d D)
 
-pub lt-is : (s : Bool) (m : ℕ) (e : ℤ) (y : Float) (k : ℕ) → HasValue y false k 1 → (s ≡ true → m * up e ≡ 0) → lt (fin s m e) y ≡ ltb (m * up e) (k * down e)
+pub lt-is :
+    (s : Bool) (m : ℕ) (e : ℤ) (y : Float) (k : ℕ) → HasValue y false k 1 → (s ≡ true → m * up e ≡ 0)
+    → lt (fin s m e) y ≡ ltb (m * up e) (k * down e)
 unfolding lt
 lt-is s m e nan k h z = absurd h
 lt-is s m e (inf t) k h z = absurd h
@@ -181,14 +199,16 @@ unfolding ofInt
 whole-value f k h = round-whole f false k h
 
 -- a float of the value j off a whole number, and a whole number off 0
-pub sub-whole : (f : Format) (k j : ℕ) (y : Float) → k ≤ 2 ^ prec f → j ≤ k → HasValue y false j 1 → sub f (ofInt f (pos k)) y ≡ ofInt f (pos (k - j))
+pub sub-whole :
+    (f : Format) (k j : ℕ) (y : Float) → k ≤ 2 ^ prec f → j ≤ k → HasValue y false j 1 → sub f (ofInt f (pos k)) y ≡ ofInt f (pos (k - j))
 sub-whole f k j y few l v = sub-value f (ofInt f (pos k)) y false false k j 1 (zero-lt-suc 0) (whole-value f k few) v ∙ off-exact f k j l
 
 minus : (f : Format) (k : ℕ) → sum f false 0 true k 1 ≡ ofInt f (negℤ (pos k))
 unfolding sum ofInt
 minus f zero = refl
 minus f (suc k) =
-    cond-yes (round f true (suc k - 0) 1) (round f (false && ltb (suc k) 0) (0 - suc k) 1) (lt-ltb 0 (suc k) (zero-lt-suc k)) ∙ ap (λ (x : ℕ). round f true x 1) all
+    cond-yes (round f true (suc k - 0) 1) (round f (false && ltb (suc k) 0) (0 - suc k) 1) (lt-ltb 0 (suc k) (zero-lt-suc k))
+    ∙ ap (λ (x : ℕ). round f true x 1) all
   where
     all : suc k - 0 ≡ suc k
     all = omega arith
@@ -212,7 +232,11 @@ floored f h P E M fit (fin s m e) u =
     let test = lt-is s m e (ofInt f (pos k)) k (whole-value f k few) (u .0) in
     record {
       k = k;
-      is = ap (λ (x : Float). sub f x (big h)) (add-value f (fin s m e) (big h) s false p (b * q) q Q (refl, refl) (refl, ap (λ (x : ℕ). x * q) (one-mul b) ∙ sym (mul-one (b * q))) ∙ on f h P E s p q Q (u .0)) ∙ taken-off f h P E M fit p q Q (u .1);
+      is =
+          ap (λ (x : Float). sub f x (big h))
+          (add-value f (fin s m e) (big h) s false p (b * q) q Q (refl, refl)
+          (refl, ap (λ (x : ℕ). x * q) (one-mul b) ∙ sym (mul-one (b * q))) ∙ on f h P E s p q Q (u .0))
+          ∙ taken-off f h P E M fit p q Q (u .1);
       most = omega arith;
       whole-most = l;
       over = λ t. (

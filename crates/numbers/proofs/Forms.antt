@@ -1,4 +1,5 @@
--- The tests of a float as the code makes them, and as other laws of floats take them, are the tests defined: shown by the kinds of float. Assumes nothing.
+-- The tests of a float as the code makes them, and as other laws of floats take them, are the tests defined: shown by the kinds of float.
+-- Assumes nothing.
 use mathlib.Core.Path.{_≡_, refl, sym, _∙_, subst}
 use mathlib.Core.Bool.{Bool, true, false, not, _&&_, _||_, true≢false}
 use Prim.Native.Nat.{ℕ, zero, suc, _+_, _*_}
@@ -69,7 +70,9 @@ fraction-form (fin false m e) = rw (zed (down e), at-or-above (m * up e * 1), le
 pub plus-or-zero : (s : Bool) (m : ℕ) (e : ℤ) → le +0 (fin s m e) ≡ true → s ≡ true → m * up e ≡ 0
 unfolding le lt eq
 plus-or-zero false m e h t = absurd (true≢false (sym t))
-plus-or-zero true m e h t = tidy (m * up e) (down e) (eqb→eq (0 * 1 * down e) (m * up e * 1) (and-l (eqb (0 * 1 * down e) (m * up e * 1)) (eqb (0 * 1 * down e) 0) (subst T (sym h) tt)))
+plus-or-zero true m e h t =
+    tidy (m * up e) (down e) (eqb→eq (0 * 1 * down e) (m * up e * 1)
+    (and-l (eqb (0 * 1 * down e) (m * up e * 1)) (eqb (0 * 1 * down e) 0) (subst T (sym h) tt)))
   where
     tidy : (p q : ℕ) → 0 * 1 * q ≡ p * 1 → p ≡ 0
     tidy p q h = omega arith

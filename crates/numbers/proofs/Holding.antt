@@ -1,4 +1,5 @@
--- A float held to what 16 bits reach is small, and its whole part with the sign back is the cast clamped to 16 bits. By the kinds of float. Assumes nothing.
+-- A float held to what 16 bits reach is small, and its whole part with the sign back is the cast clamped to 16 bits. By the kinds of float.
+-- Assumes nothing.
 use mathlib.Core.Path.{_≡_, refl, sym, ap, _∙_, subst}
 use mathlib.Core.Bool.{Bool, true, false, cond, true≢false}
 use Prim.Native.Nat.{ℕ, zero, suc, _+_, _*_, _/_, _^_, _≤_, _<_, min}
@@ -164,7 +165,8 @@ module _ (m : ℕ) (e : ℤ) where
 pub holds : (x : Float) → Holds x
 unfolding held lt eq neg toSigned
 holds nan = from nan +0 +0 refl refl ((λ (u : false ≡ true). refl), lit≤ tt) refl
-holds (inf true) = from (inf true) bottom (fin false 1 (pos 15)) refl refl ((λ (u : false ≡ true). absurd (true≢false (sym u))), lit≤ tt) refl
+holds (inf true) =
+    from (inf true) bottom (fin false 1 (pos 15)) refl refl ((λ (u : false ≡ true). absurd (true≢false (sym u))), lit≤ tt) refl
 holds (inf false) = from (inf false) top top refl refl ((λ (u : false ≡ true). absurd (true≢false (sym u))), lit≤ tt) refl
 holds (fin false m e) = positive-case m e (lt (fin false m e) top) refl
 holds (fin true m e) = negative-case m e (lt bottom (fin true m e)) (lt (fin true m e) +0) refl refl
@@ -193,7 +195,8 @@ clamped-cast (fin true m e) = ⊎-elim few many (below-or (m * up e / down e) 32
         let i : min (m * up e / down e) 2147483648 ≡ min (m * up e / down e) 32768 = omega arith in
         clamp-neg (min (m * up e / down e) 2147483648) (omega arith) ∙ ap (λ (k : ℕ). negℤ (pos k)) i
 
-    many : 32768 ≤ m * up e / down e → clamp16 (negℤ (pos (min (m * up e / down e) 2147483648))) ≡ negℤ (pos (min (m * up e / down e) 32768))
+    many :
+        32768 ≤ m * up e / down e → clamp16 (negℤ (pos (min (m * up e / down e) 2147483648))) ≡ negℤ (pos (min (m * up e / down e) 32768))
     many h =
         let i : 32768 ≡ min (m * up e / down e) 32768 = omega arith in
         clamp-under (min (m * up e / down e) 2147483648) (omega arith) ∙ ap (λ (k : ℕ). negℤ (pos k)) i
@@ -270,12 +273,16 @@ few-whole (fin s m e) h =
     let k : m * up e / down e < 32769 = div-lt-iff-lt-mul (down-pos e) .1 (omega (arith, h .1, down-pos e)) in
     omega arith
 
-pub signed-whole : (x : Float) → cond (lt (held x) +0) (sub binary64 +0 (ofInt binary64 (pos (wholeOf (sizeOf (held x)))))) (ofInt binary64 (pos (wholeOf (sizeOf (held x))))) ≡ ofInt binary64 (toSigned 15 x)
+pub signed-whole :
+    (x : Float) → cond (lt (held x) +0) (sub binary64 +0 (ofInt binary64 (pos (wholeOf (sizeOf (held x))))))
+    (ofInt binary64 (pos (wholeOf (sizeOf (held x))))) ≡ ofInt binary64 (toSigned 15 x)
 signed-whole x = go (lt (held x) +0) ∙ ap (ofInt binary64) (holds x .is ∙ clamped-cast x)
   where
     k : ℕ
     k = wholeOf (sizeOf (held x))
 
-    go : (b : Bool) → cond b (sub binary64 +0 (ofInt binary64 (pos k))) (ofInt binary64 (pos k)) ≡ ofInt binary64 (cond b (negℤ (pos k)) (pos k))
+    go :
+        (b : Bool) → cond b (sub binary64 +0 (ofInt binary64 (pos k))) (ofInt binary64 (pos k)) ≡ ofInt binary64
+        (cond b (negℤ (pos k)) (pos k))
     go true = minus-whole binary64 k (few-whole (sizeOf (held x)) (holds x .small))
     go false = refl

@@ -1,5 +1,5 @@
--- Sums that wrap: wrapping in between makes no difference, since it keeps the remainder by 2 ^ 32, so wrapped sums may be taken in any order and grouping, and 32 bits hold each.
--- Assumes nothing.
+-- Sums that wrap: wrapping in between makes no difference, since it keeps the remainder by 2 ^ 32, so wrapped sums may be taken in any
+-- order and grouping, and 32 bits hold each. Assumes nothing.
 use mathlib.Core.Path.{_≡_, sym, ap, _∙_, subst}
 use mathlib.Core.Logic.{⊎-elim}
 use Prim.Native.Nat.{ℕ, suc, _+_, _-_, _%_, _≤_, _<_}
@@ -42,7 +42,8 @@ mod-sub a b =
     (λ l. ap (λ (z : ℤ). modZ z M) (sub-above a (suc b) l) ∙ above l)
     (below-or a (suc b))
   where
-    below : a < suc b → 4294967296 - suc ((suc b - suc a) % 4294967296) ≡ (a % 4294967296 + (4294967296 - suc (b % 4294967296))) % 4294967296
+    below :
+        a < suc b → 4294967296 - suc ((suc b - suc a) % 4294967296) ≡ (a % 4294967296 + (4294967296 - suc (b % 4294967296))) % 4294967296
     below l = omega arith
 
     above : suc b ≤ a → (a - suc b) % 4294967296 ≡ (a % 4294967296 + (4294967296 - suc (b % 4294967296))) % 4294967296
@@ -56,11 +57,15 @@ mod-add (pos a) (pos b) = both a b
 mod-add (pos a) (negsuc b) = mod-sub a b
 mod-add (negsuc a) (pos b) = mod-sub b a ∙ turn a b
   where
-    turn : (a b : ℕ) → (b % 4294967296 + (4294967296 - suc (a % 4294967296))) % 4294967296 ≡ (4294967296 - suc (a % 4294967296) + b % 4294967296) % 4294967296
+    turn :
+        (a b : ℕ) → (b % 4294967296 + (4294967296 - suc (a % 4294967296))) % 4294967296 ≡
+        (4294967296 - suc (a % 4294967296) + b % 4294967296) % 4294967296
     turn a b = omega arith
 mod-add (negsuc a) (negsuc b) = both a b
   where
-    both : (a b : ℕ) → 4294967296 - suc (suc (a + b) % 4294967296) ≡ (4294967296 - suc (a % 4294967296) + (4294967296 - suc (b % 4294967296))) % 4294967296
+    both :
+        (a b : ℕ) → 4294967296 - suc (suc (a + b) % 4294967296) ≡
+        (4294967296 - suc (a % 4294967296) + (4294967296 - suc (b % 4294967296))) % 4294967296
     both a b = omega arith
 
 -- a summand may be wrapped first
@@ -85,7 +90,8 @@ signed-fits : (k : ℕ) → k < M → SFits w32 (signed32 k)
 signed-fits k h =
     ⊎-elim
     (λ l. subst (λ (z : ℤ). SFits w32 z) (sym (cond-yes (pos k) (negsuc (4294967295 - k)) (lt-ltb k 2147483648 l))) (record { sfits = l }))
-    (λ l. subst (λ (z : ℤ). SFits w32 z) (sym (cond-no (pos k) (negsuc (4294967295 - k)) (le-ltb k 2147483648 l))) (record { sfits = high l }))
+    (λ l. subst (λ (z : ℤ). SFits w32 z) (sym (cond-no (pos k) (negsuc (4294967295 - k)) (le-ltb k 2147483648 l)))
+    (record { sfits = high l }))
     (below-or k 2147483648)
   where
     high : 2147483648 ≤ k → 4294967295 - k < 2147483648

@@ -1,5 +1,5 @@
--- What wrapping and clamping leave alone, and what they keep to: a number in range wraps to itself, and 16 bits hold what was clamped to them.
--- Assumes nothing.
+-- What wrapping and clamping leave alone, and what they keep to: a number in range wraps to itself, and 16 bits hold what was clamped to
+-- them. Assumes nothing.
 use mathlib.Core.Path.{_≡_, refl, ap, _∙_}
 use mathlib.Core.Bool.{Bool, true, false, cond}
 use Prim.Native.Nat.{ℕ, suc, _-_, _%_, _≤_, _<_}
@@ -26,7 +26,8 @@ wrap-self (negsuc n) h = high n (h .sfits)
   where
     high : (n : ℕ) → n < 2147483648 → signed32 (4294967296 - suc (n % 4294967296)) ≡ negsuc n
     high n l =
-        ap signed32 e ∙ cond-no (pos (4294967295 - n)) (negsuc (4294967295 - (4294967295 - n))) (le-ltb (4294967295 - n) 2147483648 k) ∙ ap negsuc f
+        ap signed32 e ∙ cond-no (pos (4294967295 - n)) (negsuc (4294967295 - (4294967295 - n))) (le-ltb (4294967295 - n) 2147483648 k)
+        ∙ ap negsuc f
       where
         e : 4294967296 - suc (n % 4294967296) ≡ 4294967295 - n
         e = omega arith
@@ -41,7 +42,8 @@ wrap-self (negsuc n) h = high n (h .sfits)
 pub clamp-fits : (z : ℤ) → SFits w16 (clamp16 z)
 clamp-fits z = held z (ltZ z (negsuc 32767)) (ltZ (pos 32767) z) refl refl
   where
-    held : (z : ℤ) (l h : Bool) → ltZ z (negsuc 32767) ≡ l → ltZ (pos 32767) z ≡ h → SFits w16 (cond l (negsuc 32767) (cond h (pos 32767) z))
+    held :
+        (z : ℤ) (l h : Bool) → ltZ z (negsuc 32767) ≡ l → ltZ (pos 32767) z ≡ h → SFits w16 (cond l (negsuc 32767) (cond h (pos 32767) z))
     held z true h p q = sfits-lit tt
     held z false true p q = sfits-lit tt
     held (pos n) false false p q = record { sfits = in-range (ltb-false 32767 n q) }

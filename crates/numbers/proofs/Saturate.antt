@@ -1,9 +1,11 @@
--- A cast from a float that stops at the ends of its range, by the tests that the code makes: in the range the whole part, above it the largest number, below it the smallest,
--- and 0 where no test passes, which is not a number; shown by the kinds of float, at every width h (h bits and a sign, or h bits) and in both formats. Assumes nothing.
+-- A cast from a float that stops at the ends of its range, by the tests that the code makes: in the range the whole part, above it the
+-- largest number, below it the smallest, and 0 where no test passes, which is not a number; shown by the kinds of float, at every width h
+-- (h bits and a sign, or h bits) and in both formats. Assumes nothing.
 use mathlib.Core.Path.{_≡_, refl, sym, ap, _∙_, subst}
 use mathlib.Core.Bool.{Bool, true, false, not, _&&_, _||_}
 use Prim.Native.Nat.{ℕ, _+_, _-_, _*_, _/_, _^_, _≤_, _<_, min}
-use native.Mathlib.Nat.{le-trans, mul-one, one-mul, div-lt-iff-lt-mul, le-div-iff-mul-le, div-le-of-le-mul, mul-comm, mul-pos, mul-le-mul-right, lt-of-lt-of-le, le-of-lt}
+use native.Mathlib.Nat.{le-trans, mul-one, one-mul, div-lt-iff-lt-mul, le-div-iff-mul-le, div-le-of-le-mul, mul-comm, mul-pos}
+use native.Mathlib.Nat.{mul-le-mul-right, lt-of-lt-of-le, le-of-lt}
 use native.Mathlib.Omega.{arith}
 use lib.IntN.{ℤ, pos, negℤ}
 use lib.Dec.{T, ltb, eqb, ltb→lt, lt→ltb, nltb→le, eqb→eq, T-not}
@@ -109,15 +111,20 @@ module _ (h : ℕ) (H : h ≤ 63) where
   unfolding le lt eq
   above-63 nan a = a
   above-63 (inf s) a = a
-  above-63 (fin true m e) a = of-le (1 * 2 ^ 63 * down e) (m * up e * 1) (le-trans (le-of (1 * 2 ^ h * down e) (m * up e * 1) a) (wide (down e)))
-  above-63 (fin false m e) a = or-l (ltb 0 (1 * 2 ^ 63 * down e + m * up e * 1)) _ (lt→ltb 0 (1 * 2 ^ 63 * down e + m * up e * 1) (some (2 ^ 63) (down e) (m * up e * 1) (pow-pos 63) (down-pos e)))
+  above-63 (fin true m e) a =
+      of-le (1 * 2 ^ 63 * down e) (m * up e * 1) (le-trans (le-of (1 * 2 ^ h * down e) (m * up e * 1) a) (wide (down e)))
+  above-63 (fin false m e) a =
+      or-l (ltb 0 (1 * 2 ^ 63 * down e + m * up e * 1)) _
+      (lt→ltb 0 (1 * 2 ^ 63 * down e + m * up e * 1) (some (2 ^ 63) (down e) (m * up e * 1) (pow-pos 63) (down-pos e)))
 
   pub below-63 : (x : Float) → T (lt x (past h)) → T (lt x (past 63))
   unfolding lt
   below-63 nan b = b
   below-63 (inf s) b = b
-  below-63 (fin true m e) b = lt→ltb 0 (m * up e * 1 + 1 * 2 ^ 63 * down e) (some' (2 ^ 63) (down e) (m * up e * 1) (pow-pos 63) (down-pos e))
-  below-63 (fin false m e) b = lt→ltb (m * up e * 1) (1 * 2 ^ 63 * down e) (lt-of-lt-of-le (ltb→lt (m * up e * 1) (1 * 2 ^ h * down e) b) (wide (down e)))
+  below-63 (fin true m e) b =
+      lt→ltb 0 (m * up e * 1 + 1 * 2 ^ 63 * down e) (some' (2 ^ 63) (down e) (m * up e * 1) (pow-pos 63) (down-pos e))
+  below-63 (fin false m e) b =
+      lt→ltb (m * up e * 1) (1 * 2 ^ 63 * down e) (lt-of-lt-of-le (ltb→lt (m * up e * 1) (1 * 2 ^ h * down e) b) (wide (down e)))
 
   pub within : (x : Float) → T (le (lowest h) x) → T (lt x (past h)) → toSigned 63 x ≡ toSigned h x
   unfolding le lt eq toSigned
@@ -126,9 +133,11 @@ module _ (h : ℕ) (H : h ≤ 63) where
   within (inf false) a b = absurd b
   within (fin true m e) a b =
       ap (λ (k : ℕ). negℤ (pos k))
-      (capped-le (m * up e / down e) (2 ^ h) (2 ^ 63) (quotient-le (m * up e) (down e) (2 ^ h) (down-pos e) (le-of (1 * 2 ^ h * down e) (m * up e * 1) a)) (pow-mono H))
+      (capped-le (m * up e / down e) (2 ^ h) (2 ^ 63)
+      (quotient-le (m * up e) (down e) (2 ^ h) (down-pos e) (le-of (1 * 2 ^ h * down e) (m * up e * 1) a)) (pow-mono H))
   within (fin false m e) a b =
-      ap pos (capped (m * up e / down e) (2 ^ h) (2 ^ 63) (quotient-lt (m * up e) (down e) (2 ^ h) (down-pos e) (ltb→lt (m * up e * 1) (1 * 2 ^ h * down e) b)) (pow-mono H))
+      ap pos (capped (m * up e / down e) (2 ^ h) (2 ^ 63)
+      (quotient-lt (m * up e) (down e) (2 ^ h) (down-pos e) (ltb→lt (m * up e * 1) (1 * 2 ^ h * down e) b)) (pow-mono H))
 
 -- ---- out of the range
 full : (q p : ℕ) → p ≤ q → min q (p - 1) ≡ p - 1
@@ -146,8 +155,12 @@ module _ (h : ℕ) where
   over nan a b = absurd a
   over (inf true) a b = absurd b
   over (inf false) a b = refl
-  over (fin true m e) a b = absurd (T-not (ltb 0 (m * up e * 1 + 1 * 2 ^ h * down e)) b (lt→ltb 0 (m * up e * 1 + 1 * 2 ^ h * down e) (some' (2 ^ h) (down e) (m * up e * 1) (pow-pos h) (down-pos e))))
-  over (fin false m e) a b = ap pos (full (m * up e / down e) (2 ^ h) (quotient-ge (m * up e) (down e) (2 ^ h) (down-pos e) (nltb→le (m * up e * 1) (1 * 2 ^ h * down e) b)))
+  over (fin true m e) a b =
+      absurd (T-not (ltb 0 (m * up e * 1 + 1 * 2 ^ h * down e)) b
+      (lt→ltb 0 (m * up e * 1 + 1 * 2 ^ h * down e) (some' (2 ^ h) (down e) (m * up e * 1) (pow-pos h) (down-pos e))))
+  over (fin false m e) a b =
+      ap pos (full (m * up e / down e) (2 ^ h)
+      (quotient-ge (m * up e) (down e) (2 ^ h) (down-pos e) (nltb→le (m * up e * 1) (1 * 2 ^ h * down e) b)))
 
   pub under : (x : Float) → T (not (le (lowest h) x)) → T (lt x +0) → toSigned h x ≡ negℤ (pos (2 ^ h))
   unfolding le lt eq toSigned
@@ -155,7 +168,8 @@ module _ (h : ℕ) where
   under (inf true) a b = refl
   under (inf false) a b = absurd b
   under (fin true m e) a b =
-      ap (λ (k : ℕ). negℤ (pos k)) (full-le (m * up e / down e) (2 ^ h) (quotient-ge (m * up e) (down e) (2 ^ h) (down-pos e) (le-of-lt (gt-of (1 * 2 ^ h * down e) (m * up e * 1) a))))
+      ap (λ (k : ℕ). negℤ (pos k)) (full-le (m * up e / down e) (2 ^ h)
+      (quotient-ge (m * up e) (down e) (2 ^ h) (down-pos e) (le-of-lt (gt-of (1 * 2 ^ h * down e) (m * up e * 1) a))))
   under (fin false m e) a b = absurd (negative (m * up e) (down e) (ltb→lt (m * up e * 1) (0 * 1 * down e) b))
 
   pub none : (x : Float) → T (not (le (lowest h) x)) → T (not (lt x +0)) → toSigned h x ≡ pos 0
@@ -163,12 +177,15 @@ module _ (h : ℕ) where
   none nan a b = refl
   none (inf true) a b = absurd b
   none (inf false) a b = absurd a
-  none (fin true m e) a b = absurd (clash (1 * 2 ^ h * down e) (m * up e) (down e) (gt-of (1 * 2 ^ h * down e) (m * up e * 1) a) (nltb→le 0 (m * up e * 1 + 0 * 1 * down e) b))
+  none (fin true m e) a b =
+      absurd (clash (1 * 2 ^ h * down e) (m * up e) (down e) (gt-of (1 * 2 ^ h * down e) (m * up e * 1) a)
+      (nltb→le 0 (m * up e * 1 + 0 * 1 * down e) b))
     where
       clash : (p n d : ℕ) → p < n * 1 → n * 1 + 0 * 1 * d ≤ 0 → ⊥
       clash p n d x y = omega arith
   none (fin false m e) a b =
-      absurd (T-not (ltb 0 (1 * 2 ^ h * down e + m * up e * 1)) (not-or (ltb 0 (1 * 2 ^ h * down e + m * up e * 1)) _ a) (lt→ltb 0 (1 * 2 ^ h * down e + m * up e * 1) (some (2 ^ h) (down e) (m * up e * 1) (pow-pos h) (down-pos e))))
+      absurd (T-not (ltb 0 (1 * 2 ^ h * down e + m * up e * 1)) (not-or (ltb 0 (1 * 2 ^ h * down e + m * up e * 1)) _ a)
+      (lt→ltb 0 (1 * 2 ^ h * down e + m * up e * 1) (some (2 ^ h) (down e) (m * up e * 1) (pow-pos h) (down-pos e))))
 
 -- ---- the i64 that `std::num` truncates to, as the machine hands it on: it fits the narrower type, and is the cast
 module _ (w : Width) (x : Float) (r : ℤ) (F : mag r < 2 ^ 63) (e : r ≡ toSigned 63 x) (k : toSigned 63 x ≡ toSigned (hbits w) x) where

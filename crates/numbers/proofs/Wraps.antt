@@ -1,4 +1,5 @@
--- What the code that wraps to 32 bits computes: the lower 32 bits are the remainder, and their upper half stands for the negative numbers. Assumes nothing.
+-- What the code that wraps to 32 bits computes: the lower 32 bits are the remainder, and their upper half stands for the negative numbers.
+-- Assumes nothing.
 use mathlib.Core.Path.{_≡_, refl, sym, ap, _∙_, subst}
 use mathlib.Core.Bool.{true, false}
 use Prim.Native.Nat.{ℕ, suc, _-_, _%_, _^_, _≤_, _<_}

@@ -24,7 +24,8 @@ module _ (rate : Float) (c : Cursor) (n : ℕ) where
   after-add (suc m) = ap (moved rate) (after-add m) ∙ ap (λ (k : ℕ). after rate k c) (next n m)
 
   pub played-add : (samples : List ℤ) (output m : ℕ) (frame : List ℤ)
-      → played rate (after rate n c) samples (output + n) m (played rate c samples output n frame) ≡ played rate c samples output (n + m) frame
+      → played rate (after rate n c) samples (output + n) m (played rate c samples output n frame) ≡ played rate c samples output
+      (n + m) frame
   unfolding played
   played-add samples output zero frame = ap (λ (k : ℕ). played rate c samples output k frame) (none n)
   played-add samples output (suc m) frame =
@@ -32,11 +33,13 @@ module _ (rate : Float) (c : Cursor) (n : ℕ) where
       (λ i. both (played-add samples output m frame i) (e i) (between samples (after-add m i)))
       ∙ ap (λ (k : ℕ). played rate c samples output k frame) (next n m)
 
-  pub inside-add : (m : ℕ) → ((j : ℕ) → j ≤ n → 1 < after rate j c .remaining) → ((j : ℕ) → j ≤ m → 1 < after rate j (after rate n c) .remaining)
+  pub inside-add :
+      (m : ℕ) → ((j : ℕ) → j ≤ n → 1 < after rate j c .remaining) → ((j : ℕ) → j ≤ m → 1 < after rate j (after rate n c) .remaining)
       → (j : ℕ) → j ≤ n + m → 1 < after rate j c .remaining
   inside-add m a b j h = ⊎-elim (λ l. a j (omega (arith, l))) (λ l. later l) (below-or j n)
     where
       later : n ≤ j → 1 < after rate j c .remaining
       later l =
           let e : n + (j - n) ≡ j = omega arith in
-          subst (λ (k : ℕ). 1 < after rate k c .remaining) e (subst (λ (d : Cursor). 1 < d .remaining) (after-add (j - n)) (b (j - n) (omega arith)))
+          subst (λ (k : ℕ). 1 < after rate k c .remaining) e
+          (subst (λ (d : Cursor). 1 < d .remaining) (after-add (j - n)) (b (j - n) (omega arith)))

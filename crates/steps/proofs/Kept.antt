@@ -1,5 +1,5 @@
--- What a step leaves is a fraction, whatever it began with; and the larger of 0.0 and a number that a rounding left with no sign is that number, so that it does not
--- matter which zero the source's `max` picks. Assumes nothing.
+-- What a step leaves is a fraction, whatever it began with; and the larger of 0.0 and a number that a rounding left with no sign is that
+-- number, so that it does not matter which zero the source's `max` picks. Assumes nothing.
 use mathlib.Core.Path.{_≡_, refl, sym, ap, subst}
 use mathlib.Core.Bool.{Bool, true, false, cond, true≢false}
 use Prim.Native.Nat.{ℕ, zero, suc, _+_, _*_, _^_, _<_}
@@ -83,4 +83,6 @@ kept f (fin false zero e) p F =
   where
     none : (u d : ℕ) → 0 * u * 1 ≡ 0 * d
     none u d = omega arith
-kept f (fin false (suc m) e) p F = ap (λ (b : Bool). cond b (fin false (suc m) e) +0) (lt-ltb (0 * 1 * down e) (suc m * up e * 1) (over (suc m) (up e) (down e) (zero-lt-suc m) (up-pos e)))
+kept f (fin false (suc m) e) p F =
+    ap (λ (b : Bool). cond b (fin false (suc m) e) +0)
+    (lt-ltb (0 * 1 * down e) (suc m * up e * 1) (over (suc m) (up e) (down e) (zero-lt-suc m) (up-pos e)))

@@ -1,10 +1,12 @@
--- A step from a fraction below 1 at a rate below 2 ^ 31: its sum is no less than the rate's whole part w, so its own whole part is w or w + 1, as the test against
--- w + 1 says, where what is left of it is below 1. Assumes nothing.
+-- A step from a fraction below 1 at a rate below 2 ^ 31: its sum is no less than the rate's whole part w, so its own whole part is w or w +
+-- 1, as the test against w + 1 says, where what is left of it is below 1. Assumes nothing.
 use mathlib.Core.Path.{_≡_, refl, sym, ap, _∙_, subst}
 use mathlib.Core.Bool.{Bool, true, false, _&&_, cond, true≢false}
 use mathlib.Core.Logic.{⊎-elim}
 use Prim.Native.Nat.{ℕ, _+_, _-_, _*_, _/_, _^_, _≤_, _<_, min}
-use native.Mathlib.Nat.{le-trans, le-of-eq, lt-of-lt-of-le, lt-of-le-of-lt, one-mul, mul-comm, mul-assoc, mul-right-comm, mul-pos, mul-le-mul-right, mul-lt-mul-of-pos-right, le-of-mul-le-mul-right, lt-of-mul-lt-mul-right, le-div-iff-mul-le, div-lt-iff-lt-mul, div-mul-le-self, zero-lt-suc, zero-mul, add-mul, le-of-lt}
+use native.Mathlib.Nat.{le-trans, le-of-eq, lt-of-lt-of-le, lt-of-le-of-lt, one-mul, mul-comm, mul-assoc, mul-right-comm, mul-pos}
+use native.Mathlib.Nat.{mul-le-mul-right, mul-lt-mul-of-pos-right, le-of-mul-le-mul-right, lt-of-mul-lt-mul-right, le-div-iff-mul-le}
+use native.Mathlib.Nat.{div-lt-iff-lt-mul, div-mul-le-self, zero-lt-suc, zero-mul, add-mul, le-of-lt}
 use native.Mathlib.Omega.{arith}
 use lib.IntN.{ℤ, pos}
 use lib.Dec.{ltb, le→leb, lit<}
@@ -54,10 +56,14 @@ cast-value (fin s m e) G W h a b c = rw (h .0) least
     q = down e
 
     above : W * q ≤ p
-    above = le-of-mul-le-mul-right (le-trans (le-of-eq (mul-right-comm W q L)) (le-trans (mul-le-mul-right q a) (le-of-eq (sym (h .1))))) (pow-pos (low binary64))
+    above =
+        le-of-mul-le-mul-right (le-trans (le-of-eq (mul-right-comm W q L)) (le-trans (mul-le-mul-right q a) (le-of-eq (sym (h .1)))))
+        (pow-pos (low binary64))
 
     below : p < (W + 1) * q
-    below = lt-of-mul-lt-mul-right L (lt-of-le-of-lt (le-of-eq (h .1)) (lt-of-lt-of-le (mul-lt-mul-of-pos-right b (down-pos e)) (le-of-eq (mul-right-comm (W + 1) L q))))
+    below =
+        lt-of-mul-lt-mul-right L (lt-of-le-of-lt (le-of-eq (h .1))
+        (lt-of-lt-of-le (mul-lt-mul-of-pos-right b (down-pos e)) (le-of-eq (mul-right-comm (W + 1) L q))))
 
     one : W ≤ p / q
     one = le-div-iff-mul-le (down-pos e) .1 above
@@ -90,7 +96,10 @@ module _ (n d : ℕ) (D : 0 < d) (few : n ≤ 4294967296 * d) where
   at-most = cell-le binary64 n d 1074 D room 4294967296 (times-le n 4294967296 d L few)
 
   value : HasValue (round binary64 false n d) false (grid binary64 n d) L
-  value = round-value binary64 false n d (lt-of-le-of-lt at-most (subst (λ (x : ℕ). 4294967296 * L < x) (mul-comm (2 ^ 1024) L ∙ sym (pow-add 2 1074 1024)) (mul-lt-mul-of-pos-right far (pow-pos (low binary64)))))
+  value =
+      round-value binary64 false n d
+      (lt-of-le-of-lt at-most (subst (λ (x : ℕ). 4294967296 * L < x) (mul-comm (2 ^ 1024) L ∙ sym (pow-add 2 1074 1024))
+      (mul-lt-mul-of-pos-right far (pow-pos (low binary64)))))
     where
       far : 4294967296 < 2 ^ 1024
       far = lit< tt
@@ -110,7 +119,8 @@ module _ (x : Float) (G W : ℕ) (v : HasValue x false G L) (few : G ≤ 4294967
   left-is : sub binary64 x (double (pos W)) ≡ round binary64 false (G - W * L) L
   left-is =
       sub-value binary64 x (double (pos W)) false false G (W * L) L (pow-pos (low binary64)) v
-      (subst (λ (c : ℕ). HasValue (double (pos W)) false (W * L) c) (one-mul L) (over (double (pos W)) false W 1 L (whole-value binary64 W (omega arith))))
+      (subst (λ (c : ℕ). HasValue (double (pos W)) false (W * L) c) (one-mul L)
+      (over (double (pos W)) false W 1 L (whole-value binary64 W (omega arith))))
       ∙ off G (W * L) L under
 
   abbrev rest : ℕ
@@ -127,7 +137,11 @@ module _ (x : Float) (G W : ℕ) (v : HasValue x false G L) (few : G ≤ 4294967
     t′ = ap (λ (y : Float). lt y +1) (sym left-is) ∙ t
 
     below : rest < L
-    below = ⊎-elim (λ h. h) (λ h. absurd (true≢false (sym t′ ∙ lt-value (round binary64 false rest L) +1 (grid binary64 rest L) 1 rest-value (refl, refl) ∙ le-ltb (grid binary64 rest L) (1 * L) (at-least rest L (pow-pos (low binary64)) rest-few 1 (le-trans (le-of-eq (one-mul L)) h))))) (below-or rest L)
+    below =
+        ⊎-elim (λ h. h) (λ h. absurd (true≢false
+        (sym t′ ∙ lt-value (round binary64 false rest L) +1 (grid binary64 rest L) 1 rest-value (refl, refl)
+        ∙ le-ltb (grid binary64 rest L) (1 * L) (at-least rest L (pow-pos (low binary64)) rest-few 1 (le-trans (le-of-eq (one-mul L)) h)))))
+        (below-or rest L)
 
     next : G < (W + 1) * L
     next = rw (add-mul W 1 L, one-mul L) (cut-under G (W * L) L under below)
@@ -136,7 +150,9 @@ module _ (x : Float) (G W : ℕ) (v : HasValue x false G L) (few : G ≤ 4294967
     whole-is = cast-value x G W v under next small
 
     pub left-kept : at-least-0 (sub binary64 x (double (pos W))) ≡ sub binary64 x (double (pos W))
-    left-kept = subst (λ (y : Float). at-least-0 y ≡ y) (sym left-is) (kept binary64 (round binary64 false rest L) (round-plus binary64 rest L) (round-fits binary64 false rest L))
+    left-kept =
+        subst (λ (y : Float). at-least-0 y ≡ y) (sym left-is)
+        (kept binary64 (round binary64 false rest L) (round-plus binary64 rest L) (round-fits binary64 false rest L))
 
     pub part-is : Part (sub binary64 x (double (pos W)))
     part-is = subst Part (sym left-is) (part-value (round binary64 false rest L) (grid binary64 rest L) rest-value t′)
@@ -147,7 +163,9 @@ unfolding sum
 sum-is false p b q z = refl
 sum-is true p b q z = ap (λ (x : ℕ). sum binary64 true x false b q) (z refl) ∙ go (ltb 0 b) refl
   where
-    go : (c : Bool) → ltb 0 b ≡ c → cond c (round binary64 false (b - 0) q) (round binary64 (true && ltb b 0) (0 - b) q) ≡ round binary64 false (p + b) q
+    go :
+        (c : Bool) → ltb 0 b ≡ c → cond c (round binary64 false (b - 0) q)
+        (round binary64 (true && ltb b 0) (0 - b) q) ≡ round binary64 false (p + b) q
     go true h =
         let k : b - 0 ≡ p + b = omega (arith, z refl) in
         ap (λ (x : ℕ). round binary64 false x q) k
@@ -169,7 +187,9 @@ abbrev pub taken : Bool → ℕ → ℕ
 taken b k = k + cond b 0 1
 
 abbrev Left : Float → ℕ → Type 0
-Left x W = (cast-u32 x ≡ W) × Part (sub binary64 x (double (pos W))) × (at-least-0 (sub binary64 x (double (pos W))) ≡ sub binary64 x (double (pos W)))
+Left x W =
+    (cast-u32 x ≡ W) × Part (sub binary64 x (double (pos W)))
+    × (at-least-0 (sub binary64 x (double (pos W))) ≡ sub binary64 x (double (pos W)))
 
 -- the whole part of the sum, and what is left
 module _ (s : Bool) (m : ℕ) (e : ℤ) (n : ℕ) (g : ℤ) (F : Part (fin s m e)) (R : Slow (fin false n g)) where
@@ -228,7 +248,9 @@ module _ (s : Bool) (m : ℕ) (e : ℤ) (n : ℕ) (g : ℤ) (F : Part (fin s m e
     where
       same : w + 0 ≡ w
       same = omega arith
-  reached false t = ltb-false G ((w + 1) * L) (sym (lt-value x (double (pos (w + 1))) G (w + 1) (value N d D few) (whole-value binary64 (w + 1) (omega (arith, w-few)))) ∙ t)
+  reached false t =
+      ltb-false G ((w + 1) * L) (sym
+      (lt-value x (double (pos (w + 1))) G (w + 1) (value N d D few) (whole-value binary64 (w + 1) (omega (arith, w-few)))) ∙ t)
 
   small : (b : Bool) → taken b w < 4294967296
   small true = omega (arith, w-few)
@@ -253,7 +275,8 @@ steady-step (fin s m e) (fin true n g) F R b t l = absurd (true≢false (R .0))
 steady-step (fin s m e) (fin false n g) F R b t l =
     let i = input-is s m e n g F R in
     subst (λ (y : Float). Left y (taken b (n * up g / down g))) (sym i)
-    (steady-fin s m e n g F R b (ap (λ (y : Float). lt y (double (pos (n * up g / down g + 1)))) (sym i) ∙ t) (ap (λ (y : Float). lt (sub binary64 y (double (pos (taken b (n * up g / down g))))) +1) (sym i) ∙ l))
+    (steady-fin s m e n g F R b (ap (λ (y : Float). lt y (double (pos (n * up g / down g + 1)))) (sym i) ∙ t)
+    (ap (λ (y : Float). lt (sub binary64 y (double (pos (taken b (n * up g / down g))))) +1) (sym i) ∙ l))
 
 -- ---- the tests say so
 part-test : (f : Float) → le +0 f ≡ true → lt f +1 ≡ true → Part f
@@ -294,8 +317,10 @@ whole-back k h = unsigned-back binary64 32 k (le→leb k (2 ^ 53) (omega arith))
 -- the rate's whole part, or one more
 pub one-more : (b : Bool) (k : ℕ) → k < 2147483648 → add binary64 (double (pos k)) (cond b +0 +1) ≡ double (pos (taken b k))
 unfolding sum ofInt
-one-more true k h = add-value binary64 (double (pos k)) +0 false false k 0 1 (zero-lt-suc 0) (whole-value binary64 k (omega arith)) (refl, refl)
-one-more false k h = add-value binary64 (double (pos k)) +1 false false k 1 1 (zero-lt-suc 0) (whole-value binary64 k (omega arith)) (refl, refl)
+one-more true k h =
+    add-value binary64 (double (pos k)) +0 false false k 0 1 (zero-lt-suc 0) (whole-value binary64 k (omega arith)) (refl, refl)
+one-more false k h =
+    add-value binary64 (double (pos k)) +1 false false k 1 1 (zero-lt-suc 0) (whole-value binary64 k (omega arith)) (refl, refl)
 
 -- the step as the code takes it, from the rate's whole part as a float
 pub record Steps (f r w : Float) : Type 0 where
@@ -304,7 +329,9 @@ pub record Steps (f r w : Float) : Type 0 where
   pub part : Part (sub binary64 (add binary64 f r) w)
   pub kept : at-least-0 (sub binary64 (add binary64 f r) w) ≡ sub binary64 (add binary64 f r) w
 
-pub stepped : (f r whole one : Float) → Part f → Slow r → whole ≡ double (pos (cast-u32 r)) → one ≡ cond (lt (add binary64 f r) (add binary64 whole +1)) +0 +1
+pub stepped :
+    (f r whole one : Float) → Part f → Slow r → whole ≡ double (pos (cast-u32 r))
+    → one ≡ cond (lt (add binary64 f r) (add binary64 whole +1)) +0 +1
     → lt (sub binary64 (add binary64 f r) (add binary64 whole one)) +1 ≡ true → Steps f r (add binary64 whole one)
 stepped f r whole one F R h o t = record {
   is = is;
@@ -326,7 +353,9 @@ stepped f r whole one F R h o t = record {
     b = lt (add binary64 f r) (double (pos (k + 1)))
 
     one-is : one ≡ cond b +0 +1
-    one-is = o ∙ ap (λ (y : Float). cond (lt (add binary64 f r) y) +0 +1) (ap (λ (y : Float). add binary64 y +1) whole-is ∙ one-more false k k-few)
+    one-is =
+        o ∙ ap (λ (y : Float). cond (lt (add binary64 f r) y) +0 +1)
+        (ap (λ (y : Float). add binary64 y +1) whole-is ∙ one-more false k k-few)
 
     w-is : add binary64 whole one ≡ double (pos (taken b k))
     w-is = (λ i. add binary64 (whole-is i) (one-is i)) ∙ one-more b k k-few

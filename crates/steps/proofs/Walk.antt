@@ -20,7 +20,8 @@ use Rattle.steps.specs.Step.{moved, left, consumed}
 use Rattle.steps.specs.Stretch.{after, between, both, played, Pair, Walked, laid}
 
 pub laid-next : (pairs : List ℤ) (fractions : List Float) (output n : ℕ) (frame : List ℤ)
-    → laid pairs fractions output (n + 1) frame ≡ both (laid pairs fractions output n frame) (output + n) (interpolate (getD pairs (n * 2) (pos 0)) (getD pairs (n * 2 + 1) (pos 0)) (getD fractions n nan))
+    → laid pairs fractions output (n + 1) frame ≡ both (laid pairs fractions output n frame) (output + n)
+    (interpolate (getD pairs (n * 2) (pos 0)) (getD pairs (n * 2 + 1) (pos 0)) (getD fractions n nan))
 unfolding laid
 laid-next pairs fractions output n frame = ap (λ (k : ℕ). laid pairs fractions output k frame) (add-one n)
 
@@ -35,12 +36,17 @@ unfolding laid played between
 laid-played rate c samples pairs fractions output zero frame w = refl
 laid-played rate c samples pairs fractions output (suc n) frame w =
     let p = w n (omega arith) in
-    λ i. both (laid-played rate c samples pairs fractions output n frame (λ j h. w j (omega arith)) i) (output + n) (interpolate (p .first-is i) (p .second-is i) (p .fraction-is i))
+    λ i. both (laid-played rate c samples pairs fractions output n frame (λ j h. w j (omega arith)) i) (output + n)
+    (interpolate (p .first-is i) (p .second-is i) (p .fraction-is i))
 
 -- a step that leaves something of the entry takes the whole part off
 pub step-inside : (rate fraction : Float) (n at : ℕ) → at + cast-u32 (add binary64 fraction rate) < n
     → moved rate (record { remaining = n - at; fraction = fraction })
-    ≡ record { remaining = n - (at + cast-u32 (add binary64 fraction rate)); fraction = at-least-0 (sub binary64 (add binary64 fraction rate) (double (pos (cast-u32 (add binary64 fraction rate))))) }
+    ≡ record {
+      remaining = n - (at + cast-u32 (add binary64 fraction rate));
+      fraction = at-least-0
+          (sub binary64 (add binary64 fraction rate) (double (pos (cast-u32 (add binary64 fraction rate)))));
+    }
 unfolding moved left consumed
 step-inside rate fraction n at h =
     let k = cast-u32 (add binary64 fraction rate) in
@@ -50,7 +56,8 @@ step-inside rate fraction n at h =
     ∙ (λ i. record { remaining = r i; fraction = at-least-0 (sub binary64 (add binary64 fraction rate) (double (pos k))) })
 
 -- ---- the first pass
-pub record Loop (rate : Float) (c : Cursor) (samples pairs : List ℤ) (fractions : List Float) (room at : ℕ) (fraction : Float) (k : ℕ) : Type 0 where
+pub record Loop (rate : Float) (c : Cursor) (samples pairs : List ℤ) (fractions : List Float) (room at : ℕ) (fraction : Float) (k : ℕ) :
+    Type 0 where
   pub most : k ≤ room
   pub far : at + 1 < length samples
   pub long : length pairs ≡ 320
@@ -59,13 +66,15 @@ pub record Loop (rate : Float) (c : Cursor) (samples pairs : List ℤ) (fraction
   pub inside : (j : ℕ) → j ≤ k → 1 < after rate j c .remaining
   pub walked : Walked rate c samples pairs fractions k
 
-module _ (rate : Float) (c : Cursor) (samples pairs : List ℤ) (fractions : List Float) (room at : ℕ) (fraction : Float) (k : ℕ) (l : Loop rate c samples pairs fractions room at fraction k) where
+module _ (rate : Float) (c : Cursor) (samples pairs : List ℤ) (fractions : List Float) (room at : ℕ) (fraction : Float) (k : ℕ)
+    (l : Loop rate c samples pairs fractions room at fraction k) where
   here : at ≡ length samples - after rate k c .remaining
   here = omega (arith, l .far, ap (λ (d : Cursor). d .remaining) (l .is))
 
   module _ (less : k < room) (few : room ≤ 160) (a b : ℤ) (n : ℕ) (x : Float)
       (a-is : a ≡ getD samples at (pos 0)) (b-is : b ≡ getD samples (at + 1) (pos 0))
-      (n-is : n ≡ cast-u32 (add binary64 fraction rate)) (x-is : x ≡ at-least-0 (sub binary64 (add binary64 fraction rate) (double (pos (cast-u32 (add binary64 fraction rate))))))
+      (n-is : n ≡ cast-u32 (add binary64 fraction rate))
+      (x-is : x ≡ at-least-0 (sub binary64 (add binary64 fraction rate) (double (pos (cast-u32 (add binary64 fraction rate))))))
       (next : at + n + 1 < length samples) where
     abbrev pairs′ : List ℤ
     pairs′ = set (set pairs (k * 2) a) (k * 2 + 1) b
@@ -88,8 +97,12 @@ module _ (rate : Float) (c : Cursor) (samples pairs : List ℤ) (fractions : Lis
         let e2 : j * 2 + 1 < k * 2 = omega arith in
         let e3 : j * 2 + 1 < k * 2 + 1 = omega arith in
         record {
-          first-is = getD-set-other (set pairs (k * 2) a) (k * 2 + 1) (j * 2) b (pos 0) (ne-of-lt e1) ∙ getD-set-other pairs (k * 2) (j * 2) a (pos 0) (ne-of-lt e0) ∙ p .first-is;
-          second-is = getD-set-other (set pairs (k * 2) a) (k * 2 + 1) (j * 2 + 1) b (pos 0) (ne-of-lt e3) ∙ getD-set-other pairs (k * 2) (j * 2 + 1) a (pos 0) (ne-of-lt e2) ∙ p .second-is;
+          first-is =
+              getD-set-other (set pairs (k * 2) a) (k * 2 + 1) (j * 2) b (pos 0) (ne-of-lt e1)
+              ∙ getD-set-other pairs (k * 2) (j * 2) a (pos 0) (ne-of-lt e0) ∙ p .first-is;
+          second-is =
+              getD-set-other (set pairs (k * 2) a) (k * 2 + 1) (j * 2 + 1) b (pos 0) (ne-of-lt e3)
+              ∙ getD-set-other pairs (k * 2) (j * 2 + 1) a (pos 0) (ne-of-lt e2) ∙ p .second-is;
           fraction-is = getD-set-other fractions k j fraction nan (ne-of-lt h) ∙ p .fraction-is;
         }
 
@@ -100,8 +113,11 @@ module _ (rate : Float) (c : Cursor) (samples pairs : List ℤ) (fractions : Lis
         let e3 : k * 2 + 1 < length (set pairs (k * 2) a) = rw (length-set pairs (k * 2) a) (omega (arith, l .long)) in
         let e4 : k < length fractions = omega (arith, l .long-f) in
         record {
-          first-is = getD-set-other (set pairs (k * 2) a) (k * 2 + 1) (k * 2) b (pos 0) (ne-of-lt e1) ∙ getD-set-same pairs (k * 2) a (pos 0) e2 ∙ a-is ∙ ap (λ (i : ℕ). getD samples i (pos 0)) here;
-          second-is = getD-set-same (set pairs (k * 2) a) (k * 2 + 1) b (pos 0) e3 ∙ b-is ∙ ap (λ (i : ℕ). getD samples (i + 1) (pos 0)) here;
+          first-is =
+              getD-set-other (set pairs (k * 2) a) (k * 2 + 1) (k * 2) b (pos 0) (ne-of-lt e1) ∙ getD-set-same pairs (k * 2) a (pos 0) e2
+              ∙ a-is ∙ ap (λ (i : ℕ). getD samples i (pos 0)) here;
+          second-is =
+              getD-set-same (set pairs (k * 2) a) (k * 2 + 1) b (pos 0) e3 ∙ b-is ∙ ap (λ (i : ℕ). getD samples (i + 1) (pos 0)) here;
           fraction-is = getD-set-same fractions k fraction nan e4 ∙ ap (λ (d : Cursor). d .fraction) (l .is);
         }
 
@@ -126,7 +142,8 @@ module _ (rate : Float) (c : Cursor) (samples pairs : List ℤ) (fractions : Lis
     }
 
 pub begun : (rate : Float) (c : Cursor) (samples pairs : List ℤ) (fractions : List Float) (room at : ℕ) (fraction : Float)
-    → at + 1 < length samples → length pairs ≡ 320 → length fractions ≡ 160 → record { remaining = length samples - at; fraction = fraction } ≡ c → Loop rate c samples pairs fractions room at fraction 0
+    → at + 1 < length samples → length pairs ≡ 320 → length fractions ≡ 160
+    → record { remaining = length samples - at; fraction = fraction } ≡ c → Loop rate c samples pairs fractions room at fraction 0
 unfolding after
 begun rate c samples pairs fractions room at fraction far long long-f e = record {
   most = omega arith;

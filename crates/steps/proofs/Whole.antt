@@ -1,4 +1,5 @@
--- Steps at rate 1.0 from a fraction of 0.0: one sample goes by, the fraction stays 0.0, and what is produced is the sample itself. Assumes nothing.
+-- Steps at rate 1.0 from a fraction of 0.0: one sample goes by, the fraction stays 0.0, and what is produced is the sample itself. Assumes
+-- nothing.
 use mathlib.Core.Path.{_≡_, refl, sym, ap, _∙_, subst}
 use mathlib.Core.Bool.{Bool, true, false, _&&_, _||_, Bool·beq, true≢false}
 use mathlib.Core.List.{List}
@@ -48,14 +49,18 @@ zero-is : eq +0 +0 ≡ true
 unfolding eq
 zero-is = refl
 
-moved-plain : (c : Cursor) → eq (c .fraction) +0 ≡ true → 1 ≤ c .remaining → moved +1 c ≡ record { remaining = c .remaining - 1; fraction = +0 }
+moved-plain :
+    (c : Cursor) → eq (c .fraction) +0 ≡ true → 1 ≤ c .remaining → moved +1 c ≡ record { remaining = c .remaining - 1; fraction = +0 }
 unfolding moved left consumed
 moved-plain c e h =
-    let k : min (cast-u32 (add binary64 (c .fraction) +1)) (c .remaining) ≡ 1 = ap (λ (x : Float). min (cast-u32 x) (c .remaining)) (input-is (c .fraction) e) ∙ ap (λ (n : ℕ). min n (c .remaining)) one-is ∙ (omega arith) in
+    let k : min (cast-u32 (add binary64 (c .fraction) +1)) (c .remaining) ≡ 1 = ap (λ (x : Float). min (cast-u32 x) (c .remaining))
+    (input-is (c .fraction) e) ∙ ap (λ (n : ℕ). min n (c .remaining)) one-is ∙ (omega arith) in
     (λ i. record { remaining = c .remaining - k i; fraction = at-least-0 (sub binary64 (input-is (c .fraction) e i) (double (pos (k i)))) })
     ∙ (λ i. record { remaining = c .remaining - 1; fraction = none-left i })
 
-pub after-plain : (n : ℕ) (c : Cursor) → eq (c .fraction) +0 ≡ true → n < c .remaining → after +1 (suc n) c ≡ record { remaining = c .remaining - suc n; fraction = +0 }
+pub after-plain :
+    (n : ℕ) (c : Cursor) → eq (c .fraction) +0 ≡ true → n < c .remaining
+    → after +1 (suc n) c ≡ record { remaining = c .remaining - suc n; fraction = +0 }
 unfolding after
 after-plain zero c e h = moved-plain c e (omega arith)
 after-plain (suc n) c e h =
@@ -75,20 +80,28 @@ after-zero zero c e h = e
 after-zero (suc n) c e h = ap (λ (d : Cursor). eq (d .fraction) +0) (after-plain n c e (omega arith)) ∙ zero-is
 
 -- one sample more
-pub played-plain : (c : Cursor) (samples : List ℤ) (output n : ℕ) (frame : List ℤ) → eq (c .fraction) +0 ≡ true → n ≤ c .remaining → c .remaining ≤ length samples
-    → mag (getD samples (length samples - c .remaining + n) (pos 0)) < 32768 → mag (getD samples (length samples - c .remaining + n + 1) (pos 0)) < 32768
-    → played +1 c samples output (n + 1) frame ≡ both (played +1 c samples output n frame) (output + n) (getD samples (length samples - c .remaining + n) (pos 0))
+pub played-plain :
+    (c : Cursor) (samples : List ℤ) (output n : ℕ) (frame : List ℤ) → eq (c .fraction) +0 ≡ true → n ≤ c .remaining
+    → c .remaining ≤ length samples
+    → mag (getD samples (length samples - c .remaining + n) (pos 0)) < 32768
+    → mag (getD samples (length samples - c .remaining + n + 1) (pos 0)) < 32768
+    → played +1 c samples output (n + 1) frame ≡ both (played +1 c samples output n frame) (output + n)
+    (getD samples (length samples - c .remaining + n) (pos 0))
 unfolding played between
 played-plain c samples output n frame e h k a b =
     let here : length samples - after +1 n c .remaining ≡ length samples - c .remaining + n = omega (arith, after-remaining n c e h) in
     ap (λ (m : ℕ). played +1 c samples output m frame) (add-one n)
     ∙ ap (both (played +1 c samples output n frame) (output + n))
-    (interpolate-at-zero (getD samples (length samples - after +1 n c .remaining) (pos 0)) (getD samples (length samples - after +1 n c .remaining + 1) (pos 0)) (after +1 n c .fraction)
-    (subst (λ (m : ℕ). mag (getD samples m (pos 0)) < 32768) (sym here) a) (subst (λ (m : ℕ). mag (getD samples (m + 1) (pos 0)) < 32768) (sym here) b) (after-zero n c e h)
+    (interpolate-at-zero (getD samples (length samples - after +1 n c .remaining) (pos 0))
+    (getD samples (length samples - after +1 n c .remaining + 1) (pos 0)) (after +1 n c .fraction)
+    (subst (λ (m : ℕ). mag (getD samples m (pos 0)) < 32768) (sym here) a)
+    (subst (λ (m : ℕ). mag (getD samples (m + 1) (pos 0)) < 32768) (sym here) b) (after-zero n c e h)
     ∙ ap (λ (m : ℕ). getD samples m (pos 0)) here)
 
 -- how far it came
-pub after-some : (n : ℕ) (c : Cursor) → eq (c .fraction) +0 ≡ true → 0 < n → n ≤ c .remaining → after +1 n c ≡ record { remaining = c .remaining - n; fraction = +0 }
+pub after-some :
+    (n : ℕ) (c : Cursor) → eq (c .fraction) +0 ≡ true → 0 < n → n ≤ c .remaining
+    → after +1 n c ≡ record { remaining = c .remaining - n; fraction = +0 }
 after-some zero c e p h = absurd (omega arith)
 after-some (suc n) c e p h = after-plain n c e (omega arith)
 
@@ -99,7 +112,8 @@ pub none-played : (c : Cursor) (samples : List ℤ) (output : ℕ) (frame : List
 unfolding played
 none-played c samples output frame = refl
 
-pub none-reached : (c : Cursor) (room : ℕ) → eq (c .fraction) +0 ≡ true → 1 < c .remaining → Stretched +1 c room (record { cursor = c; count = 0 })
+pub none-reached :
+    (c : Cursor) (room : ℕ) → eq (c .fraction) +0 ≡ true → 1 < c .remaining → Stretched +1 c room (record { cursor = c; count = 0 })
 unfolding after
 none-reached c room e h = record { count-most = omega arith; cursor-is = refl; inside = inside-plain 0 c e (omega arith) }
 
@@ -120,7 +134,8 @@ one-unique (fin s m k) f e =
     let t : T (eqb (m * up k * 1) (1 * 1 * down k) && (Bool·beq s false || eqb (m * up k * 1) 0)) = subst T (sym e) tt in
     let v = eqb→eq (m * up k * 1) (1 * 1 * down k) (and-l (eqb (m * up k * 1) (1 * 1 * down k)) _ t) in
     let p = down-pos k in
-    whole-unique binary64 (fin s m k) +1 false 1 f one-fits (plus s (and-r (eqb (m * up k * 1) (1 * 1 * down k)) (Bool·beq s false || eqb (m * up k * 1) 0) t) (omega arith), v) (refl, refl)
+    whole-unique binary64 (fin s m k) +1 false 1 f one-fits
+    (plus s (and-r (eqb (m * up k * 1) (1 * 1 * down k)) (Bool·beq s false || eqb (m * up k * 1) 0) t) (omega arith), v) (refl, refl)
   where
     plus : (s : Bool) → T (Bool·beq s false || eqb (m * up k * 1) 0) → 0 < m * up k * 1 → s ≡ false
     plus false t h = refl

@@ -1,5 +1,5 @@
--- A record that is not malformed is well-formed, and the other way round; it is malformed exactly if one of document 01's sentences holds. The
--- default voice is well-formed, and tidying keeps a voice so. By the tests one after the other. Assumes nothing.
+-- A record that is not malformed is well-formed, and the other way round; it is malformed exactly if one of document 01's sentences holds.
+-- The default voice is well-formed, and tidying keeps a voice so. By the tests one after the other. Assumes nothing.
 use Prim.Native.Nat.{ℕ, _<_, _≤_}
 use mathlib.Core.Bool.{Bool, true, false, not, _&&_, _||_, cond}
 use mathlib.Core.List.{List, [], _∷_, _++_}
@@ -29,7 +29,9 @@ use Rattle.voice.specs.declared.record.Voice.{Voice}
 use Rattle.voice.specs.Blank.{limit, blankHistory, blankEntry, defaultVoice}
 use Rattle.voice.specs.Set.{set-entry-adpcm}
 use Rattle.voice.specs.Long.{isAdpcm, tooLong, anyTooLong}
-use Rattle.voice.specs.Malformed.{queuedIn, malformed, WellFormed, QueuedLonger, filterNumbers, Outside, Malformed, queue-over-64, remaining-over-length, decoded-over-L, entry-longer-than-L, rate-not-above-0, rate-not-finite, fraction-below-0, fraction-not-a-number, filter-outside, MalformedExactly}
+use Rattle.voice.specs.Malformed.{queuedIn, malformed, WellFormed, QueuedLonger, filterNumbers, Outside, Malformed, queue-over-64}
+use Rattle.voice.specs.Malformed.{remaining-over-length, decoded-over-L, entry-longer-than-L, rate-not-above-0, rate-not-finite}
+use Rattle.voice.specs.Malformed.{fraction-below-0, fraction-not-a-number, filter-outside, MalformedExactly}
 use Rattle.voice.specs.Tidy.{tidyEntry, tidyFilters, tidied}
 use Rattle.voice.proofs.Tidied.{queued-at}
 
@@ -75,7 +77,8 @@ tidy-in-range f = λ j. simple (f .«has_simple») j && biquad (f .«has_biquad�
 
 module _ (L : ℕ) where
   -- the queued entries by their places
-  pub entries-at : (v : Voice) → anyTooLong L (queuedIn v) ≡ false → (k : ℕ) → k < v .queued → tooLong L (getD (v .queue) k blankEntry) ≡ false
+  pub entries-at :
+      (v : Voice) → anyTooLong L (queuedIn v) ≡ false → (k : ℕ) → k < v .queued → tooLong L (getD (v .queue) k blankEntry) ≡ false
   entries-at v e k h = ⊎-elim here past (below-or k (length (v .queue)))
     where
       here : k < length (v .queue) → tooLong L (getD (v .queue) k blankEntry) ≡ false
@@ -86,10 +89,12 @@ module _ (L : ℕ) where
       past : length (v .queue) ≤ k → tooLong L (getD (v .queue) k blankEntry) ≡ false
       past g = ap (tooLong L) (List·getD-eq-default (v .queue) blankEntry {n = k} g) ∙ blank-fits L
 
-  pub at-entries : (v : Voice) → ((k : ℕ) → k < v .queued → tooLong L (getD (v .queue) k blankEntry) ≡ false) → anyTooLong L (queuedIn v) ≡ false
+  pub at-entries :
+      (v : Voice) → ((k : ℕ) → k < v .queued → tooLong L (getD (v .queue) k blankEntry) ≡ false) → anyTooLong L (queuedIn v) ≡ false
   at-entries v f =
       each-none (tooLong L) (queuedIn v) blankEntry (λ k h.
-      let l : k < v .queued = omega (arith, rw length-take at h) in ap (tooLong L) (getD-take (v .queued) (v .queue) k blankEntry l) ∙ f k l)
+      let l : k < v .queued = omega (arith, rw length-take at h) in ap (tooLong L) (getD-take (v .queued) (v .queue) k blankEntry l)
+      ∙ f k l)
 
   -- ---- both ways
 
@@ -162,7 +167,8 @@ clash e f = let z : _≡_ {A = ℕ} 0 1 = cc in omega arith
 -- the numbers of the filters that are on, taken one by one
 numbers-in-range : (f : Filters) → filtersInRange f ≡ every inRange (filterNumbers f)
 numbers-in-range f =
-    (λ j. simple (f .«has_simple») j && biquad (f .«has_biquad») j) ∙ sym (every-append inRange (cond (f .«has_simple») _ []) (cond (f .«has_biquad») _ []))
+    (λ j. simple (f .«has_simple») j && biquad (f .«has_biquad») j)
+    ∙ sym (every-append inRange (cond (f .«has_simple») _ []) (cond (f .«has_biquad») _ []))
   where
     every-is : (zs : List ℤ) → allInRange zs ≡ every inRange zs
     every-is [] = refl
@@ -180,7 +186,8 @@ numbers-in-range f =
         → cond on (biquadInRange (f .biquad)) true
         ≡ every inRange (cond on (f .biquad .b ++ (f .biquad .a ++ (f .biquad .x ++ f .biquad .y))) [])
     biquad true =
-        ap (λ (t : Bool). allInRange (f .biquad .b) && (allInRange (f .biquad .a) && (allInRange (f .biquad .x) && t))) (every-is (f .biquad .y))
+        ap (λ (t : Bool). allInRange (f .biquad .b) && (allInRange (f .biquad .a) && (allInRange (f .biquad .x) && t)))
+        (every-is (f .biquad .y))
         ∙ ap (λ (t : Bool). allInRange (f .biquad .b) && (allInRange (f .biquad .a) && t)) (split (f .biquad .x) (f .biquad .y))
         ∙ ap (λ (t : Bool). allInRange (f .biquad .b) && t) (split (f .biquad .a) (f .biquad .x ++ f .biquad .y))
         ∙ split (f .biquad .b) (f .biquad .a ++ (f .biquad .x ++ f .biquad .y))
@@ -200,7 +207,8 @@ module _ (f : Filters) where
   outside-is o =
       numbers-in-range f
       ∙ every-some inRange (filterNumbers f)
-      ∙ not-yes (one-some (λ z. not (inRange z)) (o .number) (filterNumbers f) (o .among) (not-no (lt-leb (natAbs (o .number)) 32768 (o .outside))))
+      ∙ not-yes (one-some (λ z. not (inRange z)) (o .number) (filterNumbers f) (o .among)
+      (not-no (lt-leb (natAbs (o .number)) 32768 (o .outside))))
 
 -- an entry that is too long, in words
 pub long-is : (L : ℕ) (e : Entry) → tooLong L e ≡ true → (e .format ≡ Adpcm) × (L < e .length)
@@ -222,7 +230,8 @@ module _ (L : ℕ) (v : Voice) where
   entry-told e =
       let one = some-place (tooLong L) (queuedIn v) blankEntry e in
       let h : one .0 < v .queued = omega (arith, rw length-take at (one .1)) in
-      let long = long-is L (getD (v .queue) (one .0) blankEntry) (ap (tooLong L) (sym (getD-take (v .queued) (v .queue) (one .0) blankEntry h)) ∙ one .2) in
+      let long = long-is L (getD (v .queue) (one .0) blankEntry)
+      (ap (tooLong L) (sym (getD-take (v .queued) (v .queue) (one .0) blankEntry h)) ∙ one .2) in
       record { place = one .0; queued = h; adpcm = long .0; longer = long .1 }
 
   entry-asked : QueuedLonger L v → anyTooLong L (queuedIn v) ≡ true

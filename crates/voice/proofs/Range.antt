@@ -1,5 +1,5 @@
--- A record passes the tests of its types exactly where what they ask is known of it, both ways; the default voice passes them. By taking the tests
--- apart one by one. Assumes nothing.
+-- A record passes the tests of its types exactly where what they ask is known of it, both ways; the default voice passes them. By taking
+-- the tests apart one by one. Assumes nothing.
 use Prim.Native.Nat.{ℕ, _^_, _<_}
 use mathlib.Core.Bool.{true}
 use mathlib.Core.Path.{_≡_, refl, _∙_}
@@ -14,7 +14,8 @@ use Rattle.numbers.specs.Literals.{+0, +1}
 use Rattle.filters.specs.Defaults.{defaultSimple, defaultBiquad}
 use Rattle.voice.specs.declared.record.Voice.{Voice}
 use Rattle.voice.specs.Blank.{places, blankHistory, blankEntry, defaultVoice}
-use Rattle.voice.specs.Range.{unsigned, signed, historyInRange, entryInRange, simpleIn32, biquadIn32, rangeTests, inRange, InRange, sized, Sized}
+use Rattle.voice.specs.Range.{unsigned, signed, historyInRange, entryInRange, simpleIn32, biquadIn32, rangeTests, inRange, InRange}
+use Rattle.voice.specs.Range.{sized, Sized}
 
 -- ---- a number
 

@@ -1,5 +1,5 @@
--- The laws of tidying: how long a tidied queue and tidied ramps are and what stands at a place of them; a tidied voice is blank where it must
--- be, and a voice that is so is left alone. Assumes nothing.
+-- The laws of tidying: how long a tidied queue and tidied ramps are and what stands at a place of them; a tidied voice is blank where it
+-- must be, and a voice that is so is left alone. Assumes nothing.
 use Prim.Native.Nat.{ℕ, zero, suc, _/_, _<_, _≤_}
 use mathlib.Core.Bool.{Bool, true, false, cond}
 use mathlib.Core.List.{List}
@@ -28,7 +28,9 @@ pub length-queue : (n : ℕ) (queue : List Entry) → length (tidyQueue n queue)
 unfolding tidyQueue
 length-queue n queue = length-tabulate (λ i. tidyUnder (ltb i n) (getD queue i blankEntry)) places
 
-pub queue-at : (n : ℕ) (queue : List Entry) (i : ℕ) (d : Entry) → i < places → getD (tidyQueue n queue) i d ≡ tidyUnder (ltb i n) (getD queue i blankEntry)
+pub queue-at :
+    (n : ℕ) (queue : List Entry) (i : ℕ) (d : Entry) → i < places
+    → getD (tidyQueue n queue) i d ≡ tidyUnder (ltb i n) (getD queue i blankEntry)
 unfolding tidyQueue
 queue-at n queue i d h = getD-tabulate (λ k. tidyUnder (ltb k n) (getD queue k blankEntry)) places i d h
 
@@ -50,7 +52,8 @@ unfolding tidyUnder
 under-off on e h = cond-no (tidyEntry e) blankEntry h
 
 -- a queued entry, tidied
-pub queued-at : (n : ℕ) (queue : List Entry) (k : ℕ) → k < n → n ≤ places → getD (tidyQueue n queue) k blankEntry ≡ tidyEntry (getD queue k blankEntry)
+pub queued-at :
+    (n : ℕ) (queue : List Entry) (k : ℕ) → k < n → n ≤ places → getD (tidyQueue n queue) k blankEntry ≡ tidyEntry (getD queue k blankEntry)
 queued-at n queue k h l = queue-at n queue k blankEntry (omega arith) ∙ under-on (ltb k n) (getD queue k blankEntry) (lt-ltb k n h)
 
 -- past the count, also past the queue's end
@@ -84,11 +87,14 @@ entries-blank : (n : ℕ) (queue : List Entry) (k : ℕ) → BlankEntry (getD (t
 entries-blank n queue k = by (below-or k places)
   where
     by : (k < places) ⊎ (places ≤ k) → BlankEntry (getD (tidyQueue n queue) k blankEntry)
-    by (inl l) = subst (λ (e : Entry). BlankEntry e) (sym (queue-at n queue k blankEntry l)) (under-blank (ltb k n) (getD queue k blankEntry))
+    by (inl l) =
+        subst (λ (e : Entry). BlankEntry e) (sym (queue-at n queue k blankEntry l)) (under-blank (ltb k n) (getD queue k blankEntry))
     by (inr g) =
-        subst (λ (e : Entry). BlankEntry e) (sym (List·getD-eq-default (tidyQueue n queue) blankEntry {n = k} (omega (arith, length-queue n queue)))) blank-is-blank
+        subst (λ (e : Entry). BlankEntry e)
+        (sym (List·getD-eq-default (tidyQueue n queue) blankEntry {n = k} (omega (arith, length-queue n queue)))) blank-is-blank
 
-ramp-blank : (marks : List Bool) (ramp : List Float) (k : ℕ) → getD marks (k / 4) false ≡ false → getD (tidyRamp marks ramp) k blankGain ≡ blankGain
+ramp-blank :
+    (marks : List Bool) (ramp : List Float) (k : ℕ) → getD marks (k / 4) false ≡ false → getD (tidyRamp marks ramp) k blankGain ≡ blankGain
 ramp-blank marks ramp k off = by (below-or k 12)
   where
     by : (k < 12) ⊎ (12 ≤ k) → getD (tidyRamp marks ramp) k blankGain ≡ blankGain
@@ -158,7 +164,8 @@ module _ (v : Voice) (b : Blank v) where
       let r = v .ramp in
       ext-getD blankGain (tidyRamp m r) r (length-ramp m r ∙ sym l)
       (λ k h.
-      ramp-at m r k blankGain (omega (arith, length-ramp m r)) ∙ cond-kept (getD m (k / 4) false) (getD r k blankGain) blankGain (b .ramp k))
+      ramp-at m r k blankGain (omega (arith, length-ramp m r))
+      ∙ cond-kept (getD m (k / 4) false) (getD r k blankGain) blankGain (b .ramp k))
 
   filters-kept : tidyFilters (v .filters) ≡ v .filters
   unfolding tidyFilters

@@ -1,4 +1,5 @@
--- When number 4 is given, and what the look-up means byte by byte: the test of the two ends says the same of every byte between. Assumes nothing.
+-- When number 4 is given, and what the look-up means byte by byte: the test of the two ends says the same of every byte between. Assumes
+-- nothing.
 use mathlib.Core.Path.{_≡_, refl, sym, ap, _∙_}
 use mathlib.Core.Bool.{true, false}
 use mathlib.Core.List.{List, [], _∷_}
@@ -102,5 +103,7 @@ module _ (window : List ℕ) (base address count : ℕ) where
     present = (each (length window) base address count, present-if (length window) base address count);
     long = λ f. there-long (present-if (length window) base address count f);
     bytes = λ f. there-at (present-if (length window) base address count f);
-    absent = λ n. sym (absent window base address count (fails-if _ (each (length window) base address count, present-if (length window) base address count) .1 n));
+    absent =
+        λ n. sym (absent window base address count
+        (fails-if _ (each (length window) base address count, present-if (length window) base address count) .1 n));
   }

@@ -24,13 +24,15 @@ module _ (cs : List ℤ) (h : History) (bytes : List ℕ) (count : ℕ) (old : L
   no t = (sym (cond-yes _ _ t), sym (cond-yes _ _ t))
 
   served : refused (length bytes) count (length old) ≡ false → (r : Decoded) (out : List ℤ)
-      → r ≡ record { number = 0; history = decodedHistory sampleOf cs h bytes count } → out ≡ decodedSamples sampleOf cs h bytes count ++ drop count old → Right r out
+      → r ≡ record { number = 0; history = decodedHistory sampleOf cs h bytes count }
+      → out ≡ decodedSamples sampleOf cs h bytes count ++ drop count old → Right r out
   served t r out p q = (p ∙ sym (cond-no _ _ t), q ∙ sym (cond-no _ _ t))
 
 returns : tie.Need-returns
 returns c =
     let a = c .before .before .args in
-    no (a .coefficients .now) (a .history) (a .«data» .now) (a .count) (a .samples .now) (many (length (a .«data» .now)) (a .count) (length (a .samples .now)) (c .if1 .taken))
+    no (a .coefficients .now) (a .history) (a .«data» .now) (a .count) (a .samples .now)
+    (many (length (a .«data» .now)) (a .count) (length (a .samples .now)) (c .if1 .taken))
 
 add-if2 : tie.Need-add-if2
 add-if2 c = search needs
@@ -41,12 +43,15 @@ mul-if2 c = search needs
 returns-2 : tie.Need-returns-2
 returns-2 c =
     let a = c .before .before .before .args in
-    no (a .coefficients .now) (a .history) (a .«data» .now) (a .count) (a .samples .now) (odd (length (a .«data» .now)) (a .count) (length (a .samples .now)) (c .before .if1 .left) (c .if2 .taken))
+    no (a .coefficients .now) (a .history) (a .«data» .now) (a .count) (a .samples .now)
+    (odd (length (a .«data» .now)) (a .count) (length (a .samples .now)) (c .before .if1 .left) (c .if2 .taken))
 
 returns-3 : tie.Need-returns-3
 returns-3 c =
     let a = c .before .before .before .before .args in
-    no (a .coefficients .now) (a .history) (a .«data» .now) (a .count) (a .samples .now) (short (length (a .«data» .now)) (a .count) (length (a .samples .now)) (c .before .before .if1 .left) (c .before .if2 .left) (c .if3 .taken))
+    no (a .coefficients .now) (a .history) (a .«data» .now) (a .count) (a .samples .now)
+    (short (length (a .«data» .now)) (a .count) (length (a .samples .now)) (c .before .before .if1 .left) (c .before .if2 .left)
+    (c .if3 .taken))
 
 decode-all-requires : tie.Need-decode-all-requires
 decode-all-requires c κs = search needs
@@ -60,7 +65,8 @@ returns-4 c =
     let e = d .before .before in
     let a = e .before .before .before .before .args in
     served (a .coefficients .now) (a .history) (a .«data» .now) (a .count) (a .samples .now)
-    (well (length (a .«data» .now)) (a .count) (length (a .samples .now)) (e .before .before .if1 .left) (e .before .if2 .left) (e .if3 .left))
+    (well (length (a .«data» .now)) (a .count) (length (a .samples .now)) (e .before .before .if1 .left) (e .before .if2 .left)
+    (e .if3 .left))
     (record { number = 0; history = d .decode-all .result }) (d .decode-all .last .1 .1 .1 .1 .0)
     (λ j. record { number = 0; history = d .decode-all .ensures .1 j }) (d .decode-all .ensures .0)
 

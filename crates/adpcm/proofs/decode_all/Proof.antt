@@ -10,7 +10,8 @@ use Rattle.adpcm.proofs.decode_all.Statement.{statement}
 use Rattle.adpcm.proofs.decode_all.Tie as tie
 
 abbrev Inv-loop : tie.InvT-loop
-Inv-loop bytes count coefficients out₀ last₀ at₀ done₀ out last at done = (length out ≡ length out₀) × Done coefficients last₀ bytes count out₀ out last at done
+Inv-loop bytes count coefficients out₀ last₀ at₀ done₀ out last at done =
+    (length out ≡ length out₀) × Done coefficients last₀ bytes count out₀ out last at done
 
 abbrev μ-loop : tie.MeasureT-loop
 μ-loop bytes count coefficients out₀ last₀ at₀ done₀ out last at done = count - done
@@ -72,8 +73,12 @@ loop-again c =
     (take (b + 8 - b) (drop b (a .args .«data» .now))) (lent-is b 8 (a .args .«data» .now))
     (n .result) (n .ensures)
     (length (take (i + n .result - i) (drop i (l .loop .samples)))) (i + n .result - i)
-    (lent-long i (n .result) (l .loop .samples) (omega (arith, l .loop .inv .0, n .ensures, a .pre .1 .0))) k (f .last .1 .1 .1 .0) (f .ensures .0) (f .result) (f .ensures .1) in
-    (done-length (a .args .coefficients .now) (a .args .h) (a .args .«data» .now) (a .args .count) (a .args .samples .now) _ _ _ _ d (a .pre .1 .0), d)
+    (lent-long i (n .result) (l .loop .samples) (omega (arith, l .loop .inv .0, n .ensures, a .pre .1 .0))) k (f .last .1 .1 .1 .0)
+    (f .ensures .0) (f .result) (f .ensures .1) in (
+      done-length (a .args .coefficients .now) (a .args .h) (a .args .«data» .now) (a .args .count) (a .args .samples .now) _ _ _ _ d
+          (a .pre .1 .0),
+      d,
+    )
 
 same-length : tie.Need-same-length Inv-loop μ-loop
 same-length c = search needs

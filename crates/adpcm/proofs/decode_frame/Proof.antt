@@ -58,15 +58,18 @@ returns c =
     let x = p .before in
     let a = x .before .before .before in
     let cs = a .args .coefficients .now in
-    let s1 : SFits w16 (getD cs (p .predictor-of .result * 2) (pos 0)) = record { sfits = c .before .before .before .before .before .c1 .given } in
-    let s2 : SFits w16 (getD cs (p .predictor-of .result * 2 + 1) (pos 0)) = record { sfits = c .before .before .before .before .c2 .given } in
+    let s1 : SFits w16 (getD cs (p .predictor-of .result * 2)
+    (pos 0)) = record { sfits = c .before .before .before .before .before .c1 .given } in
+    let s2 : SFits w16 (getD cs (p .predictor-of .result * 2 + 1) (pos 0)) = record { sfits = c .before .before .before .before .c2 .given }
+    in
     let e = x .exponent-of .ensures .0 in
     let c1 = toZ-ofZ s1 ∙ ap (λ (k : ℕ). getD cs (k * 2) (pos 0)) (p .predictor-of .ensures .0) in
     let c2 = toZ-ofZ s2 ∙ ap (λ (k : ℕ). getD cs (k * 2 + 1) (pos 0)) (p .predictor-of .ensures .0) in
     let h = a .args .h in
     let n = length (a .args .samples .now) in
     let f = a .args .frame .now in
-    let whole : frameCodes cs f ≡ take n (frameCodes cs f) = sym (take-all n (frameCodes cs f) (omega (arith, frame-long cs f (a .pre .0), c .before .before .before .if1 .taken))) in (
+    let whole : frameCodes cs f ≡ take n (frameCodes cs f) = sym
+    (take-all n (frameCodes cs f) (omega (arith, frame-long cs f (a .pre .0), c .before .before .before .if1 .taken))) in (
       d .ensures .0 ∙ (λ j. samplesOf sampleOf h (codesBy (e j) (c1 j) (c2 j) f)) ∙ ap (samplesOf sampleOf h) whole,
       d .ensures .1 ∙ (λ j. historyAfter sampleOf h (codesBy (e j) (c1 j) (c2 j) f)) ∙ ap (historyAfter sampleOf h) whole,
     )
@@ -84,8 +87,10 @@ returns-2 c =
     let x = p .before in
     let a = x .before .before .before in
     let cs = a .args .coefficients .now in
-    let s1 : SFits w16 (getD cs (p .predictor-of .result * 2) (pos 0)) = record { sfits = c .before .before .before .before .before .c1 .given } in
-    let s2 : SFits w16 (getD cs (p .predictor-of .result * 2 + 1) (pos 0)) = record { sfits = c .before .before .before .before .c2 .given } in
+    let s1 : SFits w16 (getD cs (p .predictor-of .result * 2)
+    (pos 0)) = record { sfits = c .before .before .before .before .before .c1 .given } in
+    let s2 : SFits w16 (getD cs (p .predictor-of .result * 2 + 1) (pos 0)) = record { sfits = c .before .before .before .before .c2 .given }
+    in
     let e = x .exponent-of .ensures .0 in
     let c1 = toZ-ofZ s1 ∙ ap (λ (k : ℕ). getD cs (k * 2) (pos 0)) (p .predictor-of .ensures .0) in
     let c2 = toZ-ofZ s2 ∙ ap (λ (k : ℕ). getD cs (k * 2 + 1) (pos 0)) (p .predictor-of .ensures .0) in

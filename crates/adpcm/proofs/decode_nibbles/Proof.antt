@@ -1,4 +1,5 @@
--- `adpcm::decode_nibbles` meets its contract: after i turns the first i samples stand, and the history is that after i codes. Assumes nothing.
+-- `adpcm::decode_nibbles` meets its contract: after i turns the first i samples stand, and the history is that after i codes. Assumes
+-- nothing.
 use mathlib.Core.Path.{sym, ap, _∙_}
 use Prim.Native.Nat.{ℕ, _-_, _<_}
 use native.Mathlib.Omega.{arith}
@@ -17,7 +18,8 @@ use Rattle.adpcm.proofs.decode_nibbles.Statement.{statement}
 use Rattle.adpcm.proofs.decode_nibbles.Tie as tie
 
 abbrev Inv-loop : tie.InvT-loop
-Inv-loop frame exponent c1 c2 samples₀ last₀ i₀ samples last i = Done last₀ (take (length samples₀) (codesBy exponent (toZ w16 c1) (toZ w16 c2) frame)) samples₀ samples last i
+Inv-loop frame exponent c1 c2 samples₀ last₀ i₀ samples last i =
+    Done last₀ (take (length samples₀) (codesBy exponent (toZ w16 c1) (toZ w16 c2) frame)) samples₀ samples last i
 
 abbrev μ-loop : tie.MeasureT-loop
 μ-loop frame exponent c1 c2 samples₀ last₀ i₀ samples last i = length samples₀ - i
@@ -60,7 +62,8 @@ loop-again c =
     (taken-long codes n (codes-by-long e c1 c2 (a .args .frame .now) (a .pre .0)) (a .pre .1 .0)) k (l .inv)
     (result-read w16 (y .result) (y .ok) ∙ y .ensures
     ∙ ap (λ (b : ℕ). sampleOf (l .last) (code e c1 c2 b)) (c .before .before .nibble-at .ensures .0)
-    ∙ ap (sampleOf (l .last)) (sym (getD-take n codes (l .i) (code e c1 c2 0) k ∙ List·getD-map (code e c1 c2) (nibbles (drop 1 (a .args .frame .now))) (l .i) 0)))
+    ∙ ap (sampleOf (l .last)) (sym
+    (getD-take n codes (l .i) (code e c1 c2 0) k ∙ List·getD-map (code e c1 c2) (nibbles (drop 1 (a .args .frame .now))) (l .i) 0)))
     (toZ-ofZ z)
 
 same-length : tie.Need-same-length Inv-loop μ-loop
@@ -77,7 +80,8 @@ returns c =
     let frame = a .args .frame .now in
     let codes = codesBy e c1 c2 frame in
     let f = finish (a .args .h) (take n codes) (a .args .samples .now) (l .samples) (l .last) (l .i)
-    (taken-long codes n (codes-by-long e c1 c2 frame (a .pre .0)) (a .pre .1 .0)) (omega (arith, l .inv .same, l .inv .reach, c .loop-test .left)) (l .inv) in (
+    (taken-long codes n (codes-by-long e c1 c2 frame (a .pre .0)) (a .pre .1 .0))
+    (omega (arith, l .inv .same, l .inv .reach, c .loop-test .left)) (l .inv) in (
       f .0 ∙ (λ j. samplesOf sampleOf (a .args .h) (take n (codesBy e (toZ-ofZ (a .fits .c1) j) (toZ-ofZ (a .fits .c2) j) frame))),
       f .1 ∙ (λ j. historyAfter sampleOf (a .args .h) (take n (codesBy e (toZ-ofZ (a .fits .c1) j) (toZ-ofZ (a .fits .c2) j) frame))),
     )

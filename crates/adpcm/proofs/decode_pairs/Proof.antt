@@ -35,7 +35,8 @@ second e c1 c2 frame i l k =
     ∙ sym (List·getD-map (code e c1 c2) (nibbles (drop 1 frame)) (i * 2 + 1) 0)
 
 abbrev Inv-loop : tie.InvT-loop
-Inv-loop frame exponent c1 c2 samples₀ last₀ i₀ samples last i = Done last₀ (codesBy exponent (toZ w16 c1) (toZ w16 c2) frame) samples₀ samples last (i * 2)
+Inv-loop frame exponent c1 c2 samples₀ last₀ i₀ samples last i =
+    Done last₀ (codesBy exponent (toZ w16 c1) (toZ w16 c2) frame) samples₀ samples last (i * 2)
 
 abbrev μ-loop : tie.MeasureT-loop
 μ-loop frame exponent c1 c2 samples₀ last₀ i₀ samples last i = 7 - i
@@ -62,7 +63,8 @@ mul-y : tie.Need-mul-y Inv-loop μ-loop
 mul-y c = search needs
 
 slice-set-from-y : tie.Need-slice-set-from-y Inv-loop μ-loop
-slice-set-from-y c = omega (arith, c .before .before .before .before .loop .inv .same, c .before .before .before .before .before .before .pre .1 .0)
+slice-set-from-y c =
+    omega (arith, c .before .before .before .before .loop .inv .same, c .before .before .before .before .before .before .pre .1 .0)
 
 second-nibble-requires : tie.Need-second-nibble-requires Inv-loop μ-loop
 second-nibble-requires c κs = search needs
@@ -77,7 +79,12 @@ mul-z : tie.Need-mul-z Inv-loop μ-loop
 mul-z c = search needs
 
 slice-set-from-z : tie.Need-slice-set-from-z Inv-loop μ-loop
-slice-set-from-z c = simp length-set (omega (arith, c .before .before .before .before .before .before .before .loop .inv .same, c .before .before .before .before .before .before .before .before .before .pre .1 .0))
+slice-set-from-z c =
+    simp length-set (omega (
+      arith,
+      c .before .before .before .before .before .before .before .loop .inv .same,
+      c .before .before .before .before .before .before .before .before .before .pre .1 .0,
+    ))
 
 add-i : tie.Need-add-i Inv-loop μ-loop
 add-i c = search needs
@@ -108,12 +115,17 @@ loop-again c =
     let all : length codes ≡ length old = codes-by-long e c1 c2 frame (a .pre .0) ∙ sym (a .pre .1 .0) in
     let one : Done (a .args .h) codes old (set (l .samples) (i * 2) y₁) mid (i * 2 + 1) =
     turn (a .args .h) codes old (l .samples) (l .last) (i * 2) (code e c1 c2 0) y₁ n₁ all (omega (arith, a .pre .1 .0)) (l .inv)
-    (result-read w16 (y .result) (y .ok) ∙ y .ensures ∙ ap (sampleOf (l .last)) (ap (code e c1 c2) (n .ensures .0) ∙ first e c1 c2 frame i (a .pre .0) k)) (toZ-ofZ s) in
-    let two : Done (a .args .h) codes old (set (set (l .samples) (i * 2) y₁) (i * 2 + 1) (toZ w16 (ofZ w16 (z .result)))) (record { yn1 = toZ w16 (ofZ w16 (z .result)); yn2 = y₁ }) (i * 2 + 1 + 1) =
-    turn (a .args .h) codes old (set (l .samples) (i * 2) y₁) mid (i * 2 + 1) (code e c1 c2 0) (toZ w16 (ofZ w16 (z .result))) y₁ all (omega (arith, a .pre .1 .0)) one
-    (result-read w16 (z .result) (z .ok) ∙ z .ensures ∙ ap (sampleOf mid) (ap (code e c1 c2) (m .ensures .0) ∙ second e c1 c2 frame i (a .pre .0) k)) refl in
+    (result-read w16 (y .result) (y .ok) ∙ y .ensures
+    ∙ ap (sampleOf (l .last)) (ap (code e c1 c2) (n .ensures .0) ∙ first e c1 c2 frame i (a .pre .0) k)) (toZ-ofZ s) in
+    let two : Done (a .args .h) codes old (set (set (l .samples) (i * 2) y₁) (i * 2 + 1) (toZ w16 (ofZ w16 (z .result))))
+    (record { yn1 = toZ w16 (ofZ w16 (z .result)); yn2 = y₁ }) (i * 2 + 1 + 1) =
+    turn (a .args .h) codes old (set (l .samples) (i * 2) y₁) mid (i * 2 + 1) (code e c1 c2 0) (toZ w16 (ofZ w16 (z .result))) y₁ all
+    (omega (arith, a .pre .1 .0)) one
+    (result-read w16 (z .result) (z .ok) ∙ z .ensures
+    ∙ ap (sampleOf mid) (ap (code e c1 c2) (m .ensures .0) ∙ second e c1 c2 frame i (a .pre .0) k)) refl in
     let next : i * 2 + 1 + 1 ≡ (i + 1) * 2 = omega arith in
-    subst (λ (n : ℕ). Done (a .args .h) codes old (set (set (l .samples) (i * 2) y₁) (i * 2 + 1) (toZ w16 (ofZ w16 (z .result)))) (record { yn1 = toZ w16 (ofZ w16 (z .result)); yn2 = y₁ }) n) next two
+    subst (λ (n : ℕ). Done (a .args .h) codes old (set (set (l .samples) (i * 2) y₁) (i * 2 + 1) (toZ w16 (ofZ w16 (z .result))))
+    (record { yn1 = toZ w16 (ofZ w16 (z .result)); yn2 = y₁ }) n) next two
 
 same-length : tie.Need-same-length Inv-loop μ-loop
 same-length c = c .before .loop .inv .same
@@ -128,7 +140,8 @@ returns c =
     let frame = a .args .frame .now in
     let codes = codesBy e c1 c2 frame in
     let f = finish (a .args .h) codes (a .args .samples .now) (l .samples) (l .last) (l .i * 2)
-    (codes-by-long e c1 c2 frame (a .pre .0) ∙ sym (a .pre .1 .0)) (omega (arith, l .inv .reach, a .pre .1 .0, c .loop-test .left)) (l .inv) in (
+    (codes-by-long e c1 c2 frame (a .pre .0) ∙ sym (a .pre .1 .0)) (omega (arith, l .inv .reach, a .pre .1 .0, c .loop-test .left))
+    (l .inv) in (
       f .0 ∙ (λ j. samplesOf sampleOf (a .args .h) (codesBy e (toZ-ofZ (a .fits .c1) j) (toZ-ofZ (a .fits .c2) j) frame)),
       f .1 ∙ (λ j. historyAfter sampleOf (a .args .h) (codesBy e (toZ-ofZ (a .fits .c1) j) (toZ-ofZ (a .fits .c2) j) frame)),
     )

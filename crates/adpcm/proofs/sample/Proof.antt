@@ -31,7 +31,8 @@ returns c =
     result-read w16 (c .clamped .result) (c .clamped .ok) ∙ c .clamped .ensures
     ∙ ap clamp16 (shr-read w32 (w .wrapped .result) 2048 (w .wrapped .ok)
     ∙ ap (λ (z : ℤ). shrZ z 2048) (w .wrapped .ensures
-    ∙ ap wrap32 (is-read w64 (q .sum .ensures) tt .is ∙ (λ i. sumOf (a .h) (code (a .exponent) (toZ-ofZ (f .c1) i) (toZ-ofZ (f .c2) i) (a .nibble))))))
+    ∙ ap wrap32 (is-read w64 (q .sum .ensures) tt .is
+    ∙ (λ i. sumOf (a .h) (code (a .exponent) (toZ-ofZ (f .c1) i) (toZ-ofZ (f .c2) i) (a .nibble))))))
 
 pub sample-spec : {M : Type 1} → statement M
 sample-spec = tie.close (tie.spec sum-requires wrapped-requires clamped-requires returns)

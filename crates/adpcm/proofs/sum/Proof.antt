@@ -1,4 +1,5 @@
--- `adpcm::sum` meets its contract: each product and sum is known with a bound that 64 bits hold, from the bounds of its parts. Assumes nothing.
+-- `adpcm::sum` meets its contract: each product and sum is known with a bound that 64 bits hold, from the bounds of its parts. Assumes
+-- nothing.
 use mathlib.Core.Path.{_≡_}
 use lib.IntN.{ℤ, pos, _+ℤ_, _*ℤ_}
 use mir.Syntax.{w16, w64}
@@ -26,7 +27,9 @@ module _ {N S n s : ℤ} (hn : Is 8 N n) (hs : Is 32768 S s) where
   sum₁ : Is 536871936 (N *ℤ S *ℤ pos 2048 +ℤ pos 1024) (R (R (R n *ℤ R s) *ℤ pos 2048) +ℤ pos 1024)
   sum₁ = is-add (is-read w64 product₂ tt) (is-pos 1024)
 
-  sum₂ : {P p : ℤ} → Is 1073741824 P p → Is 1610613760 (N *ℤ S *ℤ pos 2048 +ℤ pos 1024 +ℤ P) (R (R (R (R n *ℤ R s) *ℤ pos 2048) +ℤ pos 1024) +ℤ R p)
+  sum₂ :
+      {P p : ℤ} → Is 1073741824 P p → Is 1610613760 (N *ℤ S *ℤ pos 2048 +ℤ pos 1024 +ℤ P)
+      (R (R (R (R n *ℤ R s) *ℤ pos 2048) +ℤ pos 1024) +ℤ R p)
   sum₂ hp = is-add (is-read w64 sum₁ tt) (is-read w64 hp tt)
 
   sum₃ : {P Q p q : ℤ} → Is 1073741824 P p → Is 1073741824 Q q
@@ -59,13 +62,16 @@ product-requires : tie.Need-product-requires
 product-requires c κs = search needs
 
 add-result-2 : tie.Need-add-result-2
-add-result-2 c = is-fits w64 (sum₂ (c .before .before .before .signed-nibble .ensures) (c .before .before .scale .ensures) (c .product .ensures)) tt
+add-result-2 c =
+    is-fits w64 (sum₂ (c .before .before .before .signed-nibble .ensures) (c .before .before .scale .ensures) (c .product .ensures)) tt
 
 product-requires-2 : tie.Need-product-requires-2
 product-requires-2 c κs = search needs
 
 add-result-3 : tie.Need-add-result-3
-add-result-3 c = is-fits w64 (sum₃ (c .before .before .before .before .before .signed-nibble .ensures) (c .before .before .before .before .scale .ensures) (c .before .before .product .ensures) (c .product2 .ensures)) tt
+add-result-3 c =
+    is-fits w64 (sum₃ (c .before .before .before .before .before .signed-nibble .ensures)
+    (c .before .before .before .before .scale .ensures) (c .before .before .product .ensures) (c .product2 .ensures)) tt
 
 y1 : (c : tie.Start) → SFits w16 (c .args .h .yn1)
 y1 c = search needs
@@ -74,15 +80,20 @@ y2 : (c : tie.Start) → SFits w16 (c .args .h .yn2)
 y2 c = search needs
 
 -- the parameters that were passed on are themselves
-passed : (c : tie.Start) → terms (c .args .exponent) (c .args .nibble) (P16 (c .args .c1)) (P16 (c .args .h .yn1)) (P16 (c .args .c2)) (P16 (c .args .h .yn2))
+passed :
+    (c : tie.Start) → terms (c .args .exponent) (c .args .nibble) (P16 (c .args .c1)) (P16 (c .args .h .yn1)) (P16 (c .args .c2))
+    (P16 (c .args .h .yn2))
     ≡ sumOf (c .args .h) (code (c .args .exponent) (c .args .c1) (c .args .c2) (c .args .nibble))
 unfolding sumOf
-passed c = λ i. terms (c .args .exponent) (c .args .nibble) (toZ-ofZ (c .fits .c1) i) (toZ-ofZ (y1 c) i) (toZ-ofZ (c .fits .c2) i) (toZ-ofZ (y2 c) i)
+passed c =
+    λ i. terms (c .args .exponent) (c .args .nibble) (toZ-ofZ (c .fits .c1) i) (toZ-ofZ (y1 c) i) (toZ-ofZ (c .fits .c2) i)
+    (toZ-ofZ (y2 c) i)
 
 returns : tie.Need-returns
 returns c =
     let s = c .before .before .before .before .before .before in
-    is-of (passed s) (is-read w64 (sum₃ (c .before .before .before .before .before .signed-nibble .ensures) (c .before .before .before .before .scale .ensures) (c .before .before .product .ensures) (c .product2 .ensures)) tt)
+    is-of (passed s) (is-read w64 (sum₃ (c .before .before .before .before .before .signed-nibble .ensures)
+    (c .before .before .before .before .scale .ensures) (c .before .before .product .ensures) (c .product2 .ensures)) tt)
 
 pub sum-spec : {M : Type 1} → statement M
 sum-spec =

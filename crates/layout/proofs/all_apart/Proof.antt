@@ -21,7 +21,9 @@ abbrev μ-loop : tie.MeasureT-loop
 μ-loop places i₀ i = 7 - i
 
 -- what a turn reads of the definition
-step : (ps : List Place) (i : ℕ) → i < length ps → apart (drop i ps) ≡ (apartFrom (getD ps i (place 0 0)) (drop (i + 1) ps) && apart (drop (i + 1) ps))
+step :
+    (ps : List Place) (i : ℕ) → i < length ps
+    → apart (drop i ps) ≡ (apartFrom (getD ps i (place 0 0)) (drop (i + 1) ps) && apart (drop (i + 1) ps))
 step ps i h = rw (drop-next ps i (place 0 0) h)
 
 seven : (c : tie.Start Inv-loop μ-loop) → length (c .args .t1) ≡ 7

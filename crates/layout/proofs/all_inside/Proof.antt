@@ -1,4 +1,5 @@
--- `layout::all_inside` meets its contract: what the definition says of the places from the index on is what it says of all. Assumes nothing.
+-- `layout::all_inside` meets its contract: what the definition says of the places from the index on is what it says of all. Assumes
+-- nothing.
 use mathlib.Core.Path.{_≡_, sym, ap, _∙_}
 use mathlib.Core.Bool.{_&&_}
 use mathlib.Core.List.{List}
@@ -22,7 +23,9 @@ abbrev μ-loop : tie.MeasureT-loop
 μ-loop n places i₀ i = 7 - i
 
 -- what a turn reads of the definition
-step : (n : ℕ) (ps : List Place) (i : ℕ) → i < length ps → inside n (drop i ps) ≡ (leb (end (getD ps i (place 0 0))) n && inside n (drop (i + 1) ps))
+step :
+    (n : ℕ) (ps : List Place) (i : ℕ) → i < length ps
+    → inside n (drop i ps) ≡ (leb (end (getD ps i (place 0 0))) n && inside n (drop (i + 1) ps))
 step n ps i h = rw (drop-next ps i (place 0 0) h)
 
 seven : (c : tie.Start Inv-loop μ-loop) → length (c .args .t2) ≡ 7

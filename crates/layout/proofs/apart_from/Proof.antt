@@ -22,7 +22,9 @@ abbrev μ-loop : tie.MeasureT-loop
 μ-loop p from places j₀ j = 7 - j
 
 -- what a turn reads of the definition
-step : (p : Place) (ps : List Place) (j : ℕ) → j < length ps → apartFrom p (drop j ps) ≡ (apartTwo p (getD ps j (place 0 0)) && apartFrom p (drop (j + 1) ps))
+step :
+    (p : Place) (ps : List Place) (j : ℕ) → j < length ps
+    → apartFrom p (drop j ps) ≡ (apartTwo p (getD ps j (place 0 0)) && apartFrom p (drop (j + 1) ps))
 step p ps j h = rw (drop-next ps j (place 0 0) h)
 
 seven : (c : tie.Start Inv-loop μ-loop) → length (c .args .t2) ≡ 7

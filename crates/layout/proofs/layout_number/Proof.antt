@@ -24,7 +24,9 @@ lengths : (c : tie.Else2) → let a = c .before .before .args in (not (eqb (a .f
 lengths c = or-no _ (not-yes (eq-eqb _ _ (c .before .if1 .left))) ∙ le-ltb regionMost _ (c .if2 .left)
 
 -- what the test of the places' ends says of rule 2
-ends : (c : tie.After-all-inside) → let a = c .before .before .before .before .args in c .all-inside .result ≡ inside (a .first) (placesOf (a .l))
+ends :
+    (c : tie.After-all-inside) → let a = c .before .before .before .before .args in c .all-inside .result ≡ inside (a .first)
+    (placesOf (a .l))
 ends c = c .all-inside .ensures ∙ ap (inside _) (c .before .places-of .ensures)
 
 -- past it rule 2 does not apply
@@ -32,7 +34,9 @@ ends-right : (c : tie.Else3) → let a = c .before .before .before .before .befo
 ends-right c = not-yes (sym (ends (c .before)) ∙ not-false _ (c .if3 .left))
 
 -- what the last test says of rule 3
-shared : (c : tie.After-all-apart) → let a = c .before .before .before .before .before .before .args in c .all-apart .result ≡ apart (placesOf (a .l))
+shared :
+    (c : tie.After-all-apart) → let a = c .before .before .before .before .before .before .args in c .all-apart .result ≡ apart
+    (placesOf (a .l))
 shared c = c .all-apart .ensures ∙ ap apart (c .before .before .before .places-of .ensures)
 
 returns : tie.Need-returns
@@ -40,7 +44,8 @@ returns c = sym (number (c .before) .given 0 (lit< tt) .1 (or-yes _ (not-no (ne-
 
 returns-2 : tie.Need-returns-2
 returns-2 c =
-    sym (number (c .before .before) .given 0 (lit< tt) .1 (or-no _ (not-yes (eq-eqb _ _ (c .before .if1 .left))) ∙ lt-ltb regionMost _ (c .if2 .taken)))
+    sym (number (c .before .before) .given 0 (lit< tt) .1
+    (or-no _ (not-yes (eq-eqb _ _ (c .before .if1 .left))) ∙ lt-ltb regionMost _ (c .if2 .taken)))
 
 places-of-requires : tie.Need-places-of-requires
 places-of-requires c κs = search needs
@@ -60,13 +65,15 @@ returns-4 : tie.Need-returns-4
 returns-4 c =
     let i = c .before .before in
     let e = i .before .before .before in
-    sym (number (e .before .before) .given 2 (lit< tt) .1 (lengths e, (ends-right i, not-no (sym (shared (c .before)) ∙ not-true _ (c .if4 .taken)))))
+    sym (number (e .before .before) .given 2 (lit< tt) .1
+    (lengths e, (ends-right i, not-no (sym (shared (c .before)) ∙ not-true _ (c .if4 .taken)))))
 
 returns-5 : tie.Need-returns-5
 returns-5 c =
     let i = c .before .before in
     let e = i .before .before .before in
-    sym (number (e .before .before) .nothing .1 (lengths e, (ends-right i, (not-yes (sym (shared (c .before)) ∙ not-false _ (c .if4 .left)), tt))))
+    sym (number (e .before .before) .nothing .1
+    (lengths e, (ends-right i, (not-yes (sym (shared (c .before)) ∙ not-false _ (c .if4 .left)), tt))))
 
 pub layout-number-spec : {M : Type 1} → statement M
 layout-number-spec =

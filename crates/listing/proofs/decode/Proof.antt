@@ -38,7 +38,8 @@ module _ (input frames : List ℕ) (cs : List ℤ) (h : History) (count : ℕ) (
 
   history-comes : (r : Decoded) → r ≡ decodeAnswer cs h frames count old → r .history ≡ lastHistoryIn input
   unfolding lastHistoryIn
-  history-comes r a = ap (λ (d : Decoded). d .history) (a ∙ cond-no _ _ served) ∙ (λ j. decodedHistory sampleOf (ce j) (he j) (fe j) (w .counted j))
+  history-comes r a =
+      ap (λ (d : Decoded). d .history) (a ∙ cond-no _ _ served) ∙ (λ j. decodedHistory sampleOf (ce j) (he j) (fe j) (w .counted j))
 
 coefficients-requires : tie.Need-coefficients-requires
 coefficients-requires c κs = search needs
@@ -69,7 +70,8 @@ returns c =
     let s = x .before .before in
     let a = s .args in
     let b = a .bytes .now in
-    let f : take (length b - header) (drop header b) ≡ drop header b = take-all (length b - header) (drop header b) (simp length-drop (omega arith)) in (
+    let f : take (length b - header) (drop header b) ≡ drop header b = take-all (length b - header) (drop header b)
+    (simp length-drop (omega arith)) in (
       samples-come b _ _ _ (a .count) (a .samples .now) (s .pre .0) (s .pre .1) (x .coefficients .ensures) (y .history .ensures) f
           (d .decode-adpcm .last .1 .1 .1 .1 .0) (d .decode-adpcm .ensures .1),
       history-comes b _ _ _ (a .count) (a .samples .now) (s .pre .0) (s .pre .1) (x .coefficients .ensures) (y .history .ensures) f

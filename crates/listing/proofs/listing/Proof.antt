@@ -22,7 +22,8 @@ Listed input old new r = (r ≡ length (listed input)) × ((new ≡ listed input
 -- the listing, put from the first place on
 put-listed : (input old text new : List ℕ) (r : ℕ) → text ≡ listed input → Put old 0 text new r → r ≤ outputRoom → length old ≡ outputRoom
     → Listed input old new r
-put-listed input old text new r e p h k = (after ∙ ap length e, (begins, omega (arith, after ∙ ap length e, ap length begins, length-append (listed input) (drop r old))))
+put-listed input old text new r e p h k =
+    (after ∙ ap length e, (begins, omega (arith, after ∙ ap length e, ap length begins, length-append (listed input) (drop r old))))
   where
     after : r ≡ length text
     after = omega (arith, p .after)
@@ -31,7 +32,8 @@ put-listed input old text new r e p h k = (after ∙ ap length e, (begins, omega
     begins = p .stored ∙ splice-is old 0 text (omega (arith, p .after)) ∙ (λ j. e j ++ drop (sym (p .after) j) old)
 
 -- an incomplete input
-nine-listed : (input old new : List ℕ) (r : ℕ) → complete input ≡ false → Put old 0 onlyNine new r → length old ≡ outputRoom → Listed input old new r
+nine-listed :
+    (input old new : List ℕ) (r : ℕ) → complete input ≡ false → Put old 0 onlyNine new r → length old ≡ outputRoom → Listed input old new r
 unfolding decimal listed
 nine-listed input old new r t p k =
     put-listed input old onlyNine new r (sym (cond-no (tablesOf input) onlyNine t)) p (omega (arith, p .after)) k
@@ -42,7 +44,8 @@ ends-early input h = ne-eqb (length input) (header + frameBytes (countIn input))
     other : length input ≡ header + frameBytes (countIn input) → ⊥
     other e = omega arith
 
-other-length : (input : List ℕ) (count : ℕ) → count ≡ countIn input → (length input ≡ header + frameBytes count → ⊥) → complete input ≡ false
+other-length :
+    (input : List ℕ) (count : ℕ) → count ≡ countIn input → (length input ≡ header + frameBytes count → ⊥) → complete input ≡ false
 other-length input count e h = ne-eqb _ _ (λ q. h (q ∙ ap (λ (n : ℕ). header + frameBytes n) (sym e)))
 
 -- a complete one

@@ -41,7 +41,8 @@ same-length c = c .before .loop .inv .same
 returns : tie.Need-returns Inv-loop μ-loop
 returns c =
     let a = c .before .before in
-    filling-all (a .args .src .now) (a .args .dst .now) (c .before .loop .dst) (c .before .loop .i) (a .pre) (omega arith) (c .before .loop .inv)
+    filling-all (a .args .src .now) (a .args .dst .now) (c .before .loop .dst) (c .before .loop .i) (a .pre) (omega arith)
+    (c .before .loop .inv)
 
 pub copy-spec : {M : Type 1} → statement M
 copy-spec =

@@ -1,5 +1,5 @@
--- `region::current_region` meets its contract. Each return rewrites with the tests that led there; where a test of two halves failed, one lemma says so of both ways.
--- Assumes nothing.
+-- `region::current_region` meets its contract. Each return rewrites with the tests that led there; where a test of two halves failed, one
+-- lemma says so of both ways. Assumes nothing.
 use mathlib.Core.Path.{_≡_}
 use mathlib.Core.Bool.{false, not, _&&_}
 use mathlib.Core.Logic.{⊎-elim}

@@ -45,10 +45,14 @@ returns-2 c =
     let a = b .before .before .before .before .args in
     absent (a .window .now) (a .base) (a .address) (a .length) (sym (b .before .present .ensures) ∙ not-true _ (b .if2 .taken))
 
-lies : (c : tie.Else2) → let a = c .before .before .before .before .args in presentIn (length (a .window .now)) (a .base) (a .address) (a .length) ≡ true
+lies :
+    (c : tie.Else2) → let a = c .before .before .before .before .args in presentIn (length (a .window .now)) (a .base) (a .address)
+    (a .length) ≡ true
 lies c = sym (c .before .present .ensures) ∙ not-false _ (c .if2 .left)
 
-bounds : (c : tie.Else2) → let a = c .before .before .before .before .args in (a .base ≤ a .address) × (a .address + a .length ≤ a .base + length (a .window .now))
+bounds :
+    (c : tie.Else2) → let a = c .before .before .before .before .args in (a .base ≤ a .address)
+    × (a .address + a .length ≤ a .base + length (a .window .now))
 bounds c =
     let a = c .before .before .before .before .args in
     inside (length (a .window .now)) (a .base) (a .address) (a .length) (lies c) (c .before .before .if1 .left)

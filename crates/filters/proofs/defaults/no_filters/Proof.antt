@@ -11,7 +11,13 @@ default-biquad-requires : tie.Need-default-biquad-requires
 default-biquad-requires c κs = search needs
 
 returns : tie.Need-returns
-returns c = λ i. record { «has_simple» = false; simple = c .before .default-simple .ensures i; «has_biquad» = false; biquad = c .default-biquad .ensures i }
+returns c =
+    λ i. record {
+      «has_simple» = false;
+      simple = c .before .default-simple .ensures i;
+      «has_biquad» = false;
+      biquad = c .default-biquad .ensures i;
+    }
 
 pub no-filters-spec : {M : Type 1} → statement M
 no-filters-spec = tie.close (tie.spec default-simple-requires default-biquad-requires returns)

@@ -15,7 +15,9 @@ use Rattle.filters.proofs.process.pass.Tie as tie
 pass-simple-requires : tie.Need-pass-simple-requires
 pass-simple-requires c κs = search needs
 
-first : (c : tie.After-pass-simple) → c .pass-simple .result ≡ passSimple (c .before .args .channel) (c .before .args .filters) (c .before .args .x)
+first :
+    (c : tie.After-pass-simple) → c .pass-simple .result ≡ passSimple (c .before .args .channel) (c .before .args .filters)
+    (c .before .args .x)
 first c = c .pass-simple .ensures ∙ ap (passSimple (c .before .args .channel) (c .before .args .filters)) (toZ-ofZ (c .before .fits .x))
 
 pass-biquad-requires : tie.Need-pass-biquad-requires
@@ -31,7 +33,8 @@ returns c =
     let p = c .before .before .before in
     let k = p .before .args .channel in
     let held : SFits w16 (p .pass-simple .result .value) = search needs in
-    c .pass-biquad .ensures ∙ ap (passBiquad k (p .pass-simple .result .filters)) (toZ-ofZ held) ∙ ap (λ (p : Passed). passBiquad k (p .filters) (p .value)) (first p)
+    c .pass-biquad .ensures ∙ ap (passBiquad k (p .pass-simple .result .filters)) (toZ-ofZ held)
+    ∙ ap (λ (p : Passed). passBiquad k (p .filters) (p .value)) (first p)
 
 pub pass-spec : {M : Type 1} → statement M
 pass-spec = tie.close (tie.spec pass-simple-requires pass-biquad-requires returns)

@@ -1,4 +1,5 @@
--- `filters::process::process` meets its contract: after i turns the first i samples are those that came out, and what is left comes out of the filters as they are then. Assumes nothing.
+-- `filters::process::process` meets its contract: after i turns the first i samples are those that came out, and what is left comes out of
+-- the filters as they are then. Assumes nothing.
 use mathlib.Core.Path.{_≡_, refl, sym, ap, _∙_, subst}
 use mathlib.Core.List.{List, _∷_}
 use Prim.Native.Nat.{ℕ, _+_, _-_, _<_, _≤_}
@@ -35,13 +36,21 @@ module _ (first : Filters) (old : List ℤ) where
   start : T (filtersInRange first) → Done first old old first 0 0
   start t = record { filling = filling-none goal old; left = refl; after = refl; range = t; side = omega arith }
 
-  turn : (now : List ℤ) (f : Filters) (channel i : ℕ) (p : Passed) (y : ℤ) → i < length old → SFits w16 (getD now i (pos 0)) → Done first old now f channel i
+  turn :
+      (now : List ℤ) (f : Filters) (channel i : ℕ) (p : Passed) (y : ℤ) → i < length old → SFits w16 (getD now i (pos 0))
+      → Done first old now f channel i
       → p ≡ pass channel f (getD now i (pos 0)) → y ≡ p .value → Done first old (set now i y) (p .filters) (1 - channel) (i + 1)
   turn now f channel i p y h fits d e v = record {
-    filling = filling-more goal old now i y (pos 0) (length-passed 0 first old) h (d .filling) (v ∙ ap (λ (q : Passed). q .value) was ∙ sym (ap (λ (l : List ℤ). getD l 0 (pos 0)) parts));
+    filling =
+        filling-more goal old now i y (pos 0) (length-passed 0 first old) h (d .filling)
+        (v ∙ ap (λ (q : Passed). q .value) was ∙ sym (ap (λ (l : List ℤ). getD l 0 (pos 0)) parts));
     left = ap (λ (l : List ℤ). drop 1 l) parts ∙ ap (λ (q : Passed). passedFrom (1 - channel) (q .filters) (drop (i + 1) old)) (sym was);
-    after = d .after ∙ ap (filtersAfter channel f) one ∙ ap (λ (q : Passed). filtersAfter (1 - channel) (q .filters) (drop (i + 1) old)) (sym was);
-    range = subst (λ (q : Passed). T (filtersInRange (q .filters))) (sym e) (pass-keeps channel f (getD now i (pos 0)) fits (d .range) .filters);
+    after =
+        d .after ∙ ap (filtersAfter channel f) one
+        ∙ ap (λ (q : Passed). filtersAfter (1 - channel) (q .filters) (drop (i + 1) old)) (sym was);
+    range =
+        subst (λ (q : Passed). T (filtersInRange (q .filters))) (sym e)
+        (pass-keeps channel f (getD now i (pos 0)) fits (d .range) .filters);
     side = omega (arith, d .side);
   }
     where
@@ -52,10 +61,13 @@ module _ (first : Filters) (old : List ℤ) where
       one = drop-next old i (pos 0) h
 
       parts : getD goal i (pos 0) ∷ drop (i + 1) goal
-          ≡ pass channel f (getD old i (pos 0)) .value ∷ passedFrom (1 - channel) (pass channel f (getD old i (pos 0)) .filters) (drop (i + 1) old)
+          ≡ pass channel f (getD old i (pos 0)) .value ∷ passedFrom (1 - channel) (pass channel f (getD old i (pos 0)) .filters)
+          (drop (i + 1) old)
       parts = sym (drop-next goal i (pos 0) (omega (arith, length-passed 0 first old))) ∙ d .left ∙ ap (passedFrom channel f) one
 
-  finish : (now : List ℤ) (f : Filters) (channel i : ℕ) → length old ≤ i → Done first old now f channel i → (now ≡ goal) × (f ≡ filtersAfter 0 first old)
+  finish :
+      (now : List ℤ) (f : Filters) (channel i : ℕ) → length old ≤ i → Done first old now f channel i → (now ≡ goal)
+      × (f ≡ filtersAfter 0 first old)
   finish now f channel i h d = (
     filling-all goal old now i (length-passed 0 first old) h (d .filling),
     sym (d .after ∙ ap (filtersAfter channel f) (drop-end old i h)),
@@ -113,7 +125,8 @@ returns : tie.Need-returns Inv-loop μ-loop
 returns c =
     let s = c .before .before in
     let l = c .before .loop in
-    finish (s .args .filters) (s .args .samples .now) (l .samples) (l .last) (l .channel) (l .i) (omega (arith, l .inv .filling .same, c .loop-test .left)) (l .inv)
+    finish (s .args .filters) (s .args .samples .now) (l .samples) (l .last) (l .channel) (l .i)
+    (omega (arith, l .inv .filling .same, c .loop-test .left)) (l .inv)
 
 pub process-spec : {M : Type 1} → statement M
 process-spec =

@@ -38,8 +38,13 @@ in-range-requires : tie.Need-in-range-requires Inv-loop μ-loop
 in-range-requires c κs = tt
 
 -- the test of the element at i
-tested : (c : tie.After-in-range Inv-loop μ-loop) → c .in-range .result ≡ inRange (getD (c .before .before .before .before .args .zs .now) (c .before .before .before .loop .i) (pos 0))
-tested c = c .in-range .ensures ∙ ap inRange (result-read w32 (getD (c .before .before .before .before .args .zs .now) (c .before .before .before .loop .i) (pos 0)) (c .before .in-range-arg .given))
+tested :
+    (c : tie.After-in-range Inv-loop μ-loop)
+    → c .in-range .result ≡ inRange (getD (c .before .before .before .before .args .zs .now) (c .before .before .before .loop .i) (pos 0))
+tested c =
+    c .in-range .ensures ∙ ap inRange
+    (result-read w32 (getD (c .before .before .before .before .args .zs .now) (c .before .before .before .loop .i) (pos 0))
+    (c .before .in-range-arg .given))
 
 returns : tie.Need-returns Inv-loop μ-loop
 returns c =
@@ -60,8 +65,11 @@ loop-again c =
     let t = c .before in
     let l = t .before .before .before .loop in
     let zs = t .before .before .before .before .args .zs .now in
-    let on = sym (tested t) ∙ was-on (t .in-range .result) (c .if1 .left) in
-    (omega (arith, t .before .before .loop-test .taken), l .inv .1 ∙ step zs (l .i) (t .before .before .loop-test .taken) ∙ and-yes (allInRange (drop (l .i + 1) zs)) on)
+    let on = sym (tested t) ∙ was-on (t .in-range .result) (c .if1 .left) in (
+      omega (arith, t .before .before .loop-test .taken),
+      l .inv .1 ∙ step zs (l .i) (t .before .before .loop-test .taken)
+          ∙ and-yes (allInRange (drop (l .i + 1) zs)) on,
+    )
 
 returns-2 : tie.Need-returns-2 Inv-loop μ-loop
 returns-2 c =

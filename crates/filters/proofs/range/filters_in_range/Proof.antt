@@ -19,8 +19,10 @@ returns : tie.Need-returns
 returns c =
     let s = c .before .before in
     let f = s .before .before .before .before .args .f in
-    let first = counts (f .«has_simple») (s .simple-in-range .result) ∙ ap (λ (r : Bool). cond (f .«has_simple») r true) (s .simple-in-range .ensures) in
-    let second = counts (f .«has_biquad») (c .biquad-in-range .result) ∙ ap (λ (r : Bool). cond (f .«has_biquad») r true) (c .biquad-in-range .ensures) in
+    let first = counts (f .«has_simple») (s .simple-in-range .result)
+    ∙ ap (λ (r : Bool). cond (f .«has_simple») r true) (s .simple-in-range .ensures) in
+    let second = counts (f .«has_biquad») (c .biquad-in-range .result)
+    ∙ ap (λ (r : Bool). cond (f .«has_biquad») r true) (c .biquad-in-range .ensures) in
     λ i. first i && second i
 
 pub filters-in-range-spec : {M : Type 1} → statement M

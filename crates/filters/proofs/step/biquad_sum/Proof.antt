@@ -97,22 +97,26 @@ sum₁ c = product-of (b (start₁ c) 0) (x0 (c .before)) (c .term .ensures)
 sum₂ : (c : tie.After-term2) → Is 2147483648 (so-far₂ (start₂ c)) (code₂ c)
 sum₂ c =
     let s = start₂ c in
-    is-add (is-read w64 (sum₁ (c .before .before .before)) tt) (is-read w64 (product-of (b s 1) (x s (s .args .channel)) (c .term2 .ensures)) tt)
+    is-add (is-read w64 (sum₁ (c .before .before .before)) tt)
+    (is-read w64 (product-of (b s 1) (x s (s .args .channel)) (c .term2 .ensures)) tt)
 
 sum₃ : (c : tie.After-term3) → Is 3221225472 (so-far₃ (start₃ c)) (code₃ c)
 sum₃ c =
     let s = start₃ c in
-    is-add (is-read w64 (sum₂ (c .before .before .before)) tt) (is-read w64 (product-of (b s 2) (x s (s .args .channel + 2)) (c .term3 .ensures)) tt)
+    is-add (is-read w64 (sum₂ (c .before .before .before)) tt)
+    (is-read w64 (product-of (b s 2) (x s (s .args .channel + 2)) (c .term3 .ensures)) tt)
 
 sum₄ : (c : tie.After-term4) → Is 4294967296 (so-far₄ (start₄ c)) (code₄ c)
 sum₄ c =
     let s = start₄ c in
-    is-add (is-read w64 (sum₃ (c .before .before .before)) tt) (is-read w64 (product-of (a s 0) (y s (s .args .channel)) (c .term4 .ensures)) tt)
+    is-add (is-read w64 (sum₃ (c .before .before .before)) tt)
+    (is-read w64 (product-of (a s 0) (y s (s .args .channel)) (c .term4 .ensures)) tt)
 
 sum₅ : (c : tie.After-term5) → Is 5368709120 (so-far₅ (start₅ c)) (code₅ c)
 sum₅ c =
     let s = start₅ c in
-    is-add (is-read w64 (sum₄ (c .before .before .before)) tt) (is-read w64 (product-of (a s 1) (y s (s .args .channel + 2)) (c .term5 .ensures)) tt)
+    is-add (is-read w64 (sum₄ (c .before .before .before)) tt)
+    (is-read w64 (product-of (a s 1) (y s (s .args .channel + 2)) (c .term5 .ensures)) tt)
 
 term-requires : tie.Need-term-requires
 term-requires c κs = (handed (b (c .before .before) 0), handed (x0 c))

@@ -18,7 +18,9 @@ element-set-from-after : tie.Need-element-set-from-after
 element-set-from-after c = search needs
 
 returns : tie.Need-returns
-returns c = ap (simpleAfter (c .before .args .channel) (c .before .args .f)) (is-read w32 (c .kept .ensures) tt .is ∙ toZ-ofZ (c .before .fits .value))
+returns c =
+    ap (simpleAfter (c .before .args .channel) (c .before .args .f))
+    (is-read w32 (c .kept .ensures) tt .is ∙ toZ-ofZ (c .before .fits .value))
 
 pub simple-after-spec : {M : Type 1} → statement M
 simple-after-spec = tie.close (tie.spec kept-requires mul-t6 element-set-from-after returns)

@@ -44,16 +44,21 @@ term-requires-2 : tie.Need-term-requires-2
 term-requires-2 c κs =
     let s = c .before .before .before .before .before in (handed (a1 s), handed (y1 s))
 
-product₁ : (c : tie.After-term) → Is 1073741824 (c .before .before .before .args .t1 .b0 *ℤ c .before .before .before .args .x) (c .term .result)
+product₁ :
+    (c : tie.After-term) → Is 1073741824 (c .before .before .before .args .t1 .b0 *ℤ c .before .before .before .args .x) (c .term .result)
 product₁ c = product-of (b0 (c .before .before .before)) (x (c .before)) (c .term .ensures)
 
 abbrev start : tie.After-term2 → tie.Start
 start c = c .before .before .before .before .before .before
 
-product₂ : (c : tie.After-term2) → Is 1073741824 (start c .args .t1 .a1 *ℤ getD (start c .args .t1 .y1) (start c .args .channel) (pos 0)) (c .term2 .result)
+product₂ :
+    (c : tie.After-term2) → Is 1073741824 (start c .args .t1 .a1 *ℤ getD (start c .args .t1 .y1) (start c .args .channel) (pos 0))
+    (c .term2 .result)
 product₂ c = product-of (a1 (start c)) (y1 (start c)) (c .term2 .ensures)
 
-sum : (c : tie.After-term2) → Is 2147483648 (simpleSum (start c .args .channel) (start c .args .t1) (start c .args .x)) (toZ w64 (ofZ w64 (c .before .before .before .term .result)) +ℤ toZ w64 (ofZ w64 (c .term2 .result)))
+sum :
+    (c : tie.After-term2) → Is 2147483648 (simpleSum (start c .args .channel) (start c .args .t1) (start c .args .x))
+    (toZ w64 (ofZ w64 (c .before .before .before .term .result)) +ℤ toZ w64 (ofZ w64 (c .term2 .result)))
 unfolding simpleSum
 sum c = is-add (is-read w64 (product₁ (c .before .before .before)) tt) (is-read w64 (product₂ c) tt)
 

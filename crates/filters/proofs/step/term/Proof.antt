@@ -15,10 +15,13 @@ wide32-requires c κs = search needs
 wide32-requires-2 : tie.Need-wide32-requires-2
 wide32-requires-2 c κs = search needs
 
-product : (c : tie.After-wide322) → Is 1073741824 (c .before .before .args .a *ℤ c .before .before .args .x) (toZ w64 (ofZ w64 (c .before .wide32 .result)) *ℤ toZ w64 (ofZ w64 (c .wide322 .result)))
+product :
+    (c : tie.After-wide322) → Is 1073741824 (c .before .before .args .a *ℤ c .before .before .args .x)
+    (toZ w64 (ofZ w64 (c .before .wide32 .result)) *ℤ toZ w64 (ofZ w64 (c .wide322 .result)))
 product c =
     let s = c .before .before in
-    is-mul (is-read w64 (narrow (s .pre .0) (is-arg (s .fits .a) (c .before .wide32 .ensures))) tt) (is-read w64 (narrow (s .pre .1) (is-arg (s .fits .x) (c .wide322 .ensures))) tt)
+    is-mul (is-read w64 (narrow (s .pre .0) (is-arg (s .fits .a) (c .before .wide32 .ensures))) tt)
+    (is-read w64 (narrow (s .pre .1) (is-arg (s .fits .x) (c .wide322 .ensures))) tt)
 
 mul-result : tie.Need-mul-result
 mul-result c = is-fits w64 (product c) tt

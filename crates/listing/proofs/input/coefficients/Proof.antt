@@ -1,4 +1,5 @@
--- `listing::input::coefficients` meets its contract: the array is filled with the numbers that stand in the bytes, two bytes to a number. Assumes nothing.
+-- `listing::input::coefficients` meets its contract: the array is filled with the numbers that stand in the bytes, two bytes to a number.
+-- Assumes nothing.
 use mathlib.Core.Path.{_≡_, refl, sym, ap, _∙_}
 use mathlib.Core.List.{List}
 use Prim.Native.Nat.{ℕ, zero, suc, _+_, _-_, _*_, _<_}
@@ -74,7 +75,8 @@ loop-again c =
     let r = c .signed-at in
     let l = c .before .before in
     let bytes = l .before .before .args .bytes .now in
-    filling-more (coefficientsIn bytes) _ (l .loop .values) (l .loop .i) _ (pos 0) (sixteen bytes) (c .before .loop-test .taken) (l .loop .inv)
+    filling-more (coefficientsIn bytes) _ (l .loop .values) (l .loop .i) _ (pos 0) (sixteen bytes) (c .before .loop-test .taken)
+    (l .loop .inv)
     (result-read w16 (r .result) (r .ok) ∙ r .ensures ∙ sym (coefficient bytes (l .loop .i) (c .before .loop-test .taken)))
 
 returns : tie.Need-returns Inv-loop μ-loop

@@ -26,8 +26,11 @@ returns : tie.Need-returns
 returns c =
     let q = c .before .before in
     let p = q .before .before .before .before .before in
-    let a = p .before .before .before in
-    (put-more (put-as (ap (λ (z : ℤ). column width (signedDecimal z)) (toZ-ofZ (a .fits .y))) (p .put-signed .ensures .0)) (q .put .ensures), omega (arith, p .put-signed .ensures .1, q .put .ensures .after))
+    let a = p .before .before .before in (
+      put-more (put-as (ap (λ (z : ℤ). column width (signedDecimal z)) (toZ-ofZ (a .fits .y))) (p .put-signed .ensures .0))
+          (q .put .ensures),
+      omega (arith, p .put-signed .ensures .1, q .put .ensures .after),
+    )
 
 pub put-last-spec : {M : Type 1} → statement M
 put-last-spec =

@@ -100,7 +100,8 @@ loop-again c =
     let i = l .loop .i in
     let z : SFits w16 (getD (a .samples .now) i (pos 0)) = search needs in
     turn (a .samples .now) (a .output .now) (a .at) (l .loop .output) (l .loop .next) i (l .loop .inv) (t .loop-test .taken)
-    (put-more (p .put-number .ensures .0) (put-as (ap (λ (z : ℤ). column width (signedDecimal z) ++ newline) (toZ-ofZ z)) (q .put-last .ensures .0)))
+    (put-more (p .put-number .ensures .0)
+    (put-as (ap (λ (z : ℤ). column width (signedDecimal z) ++ newline) (toZ-ofZ z)) (q .put-last .ensures .0)))
     (omega (arith, p .put-number .ensures .1, q .put-last .ensures .1))
 
 same-length : tie.Need-same-length Inv-loop μ-loop

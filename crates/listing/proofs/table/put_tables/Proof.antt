@@ -63,8 +63,16 @@ returns c =
     let yn2 = numbers a .1 in (
       put-more (put-more (g .put-headings .ensures .0) (r .put-rows .ensures .0))
           (put-more (h .put-headings2 .ensures .0)
-          (put-more (put-as (shown yn1) (s .put-signed .ensures .0)) (put-as (ap (λ (t : List ℕ). t ++ newline) (shown yn2)) (l .put-last .ensures .0)))),
-      omega (arith, g .put-headings .ensures .1, r .put-rows .ensures .1, h .put-headings2 .ensures .1, s .put-signed .ensures .1, l .put-last .ensures .1),
+          (put-more (put-as (shown yn1) (s .put-signed .ensures .0))
+          (put-as (ap (λ (t : List ℕ). t ++ newline) (shown yn2)) (l .put-last .ensures .0)))),
+      omega (
+        arith,
+        g .put-headings .ensures .1,
+        r .put-rows .ensures .1,
+        h .put-headings2 .ensures .1,
+        s .put-signed .ensures .1,
+        l .put-last .ensures .1,
+      ),
     )
 
 pub put-tables-spec : {M : Type 1} → statement M

@@ -45,7 +45,8 @@ returns : tie.Need-returns Inv-loop μ-loop
 returns c =
     let l = c .before in
     let a = l .before in
-    putting-all (a .args .text .now) (a .args .output .now) (a .args .at) (l .loop .output) (l .loop .next) (l .loop .i) (l .loop .inv) (c .loop-test .left)
+    putting-all (a .args .text .now) (a .args .output .now) (a .args .at) (l .loop .output) (l .loop .next) (l .loop .i) (l .loop .inv)
+    (c .loop-test .left)
 
 pub put-spec : {M : Type 1} → statement M
 put-spec =

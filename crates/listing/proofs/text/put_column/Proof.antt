@@ -9,7 +9,9 @@ use Rattle.listing.proofs.text.put_column.Statement.{statement}
 use Rattle.listing.proofs.text.put_column.Tie as tie
 
 -- the spaces take what the text leaves of the width
-spaced : (c : tie.After-put-spaces) → let a = c .before .before .before .before .args in c .put-spaces .result ≡ a .at + (a .width - length (a .text .now))
+spaced :
+    (c : tie.After-put-spaces) → let a = c .before .before .before .before .args in c .put-spaces .result ≡ a .at +
+    (a .width - length (a .text .now))
 spaced c =
     let a = c .before .before .before .before .args in
     c .put-spaces .ensures .after ∙ ap (λ (n : ℕ). a .at + n) (length-replicate (a .width - length (a .text .now)) 32)

@@ -1,4 +1,5 @@
--- `listing::text::put_number` meets its contract: what stands from the first digit on, or from the sign before it, is the numeral. Assumes nothing.
+-- `listing::text::put_number` meets its contract: what stands from the first digit on, or from the sign before it, is the numeral. Assumes
+-- nothing.
 use mathlib.Core.Path.{_≡_, refl, sym, ap, _∙_}
 use mathlib.Core.List.{List, _∷_, _++_}
 use Prim.Native.Nat.{ℕ, suc, _-_, _≤_, _<_}
@@ -41,7 +42,8 @@ module _ (digits old text : List ℕ) (first all : ℕ) (e : Ends old digits tex
       signed : drop (first - 1) (set text (first - 1) v) ≡ v ∷ digits
       signed =
           ap (drop (first - 1)) (set-split text (first - 1) v (omega (arith, long, e .all)))
-          ∙ drop-at (take (first - 1) text) (v ∷ drop (suc (first - 1)) text) (first - 1) (length-take-le (first - 1) text (omega (arith, long, e .all)))
+          ∙ drop-at (take (first - 1) text) (v ∷ drop (suc (first - 1)) text) (first - 1)
+          (length-take-le (first - 1) text (omega (arith, long, e .all)))
           ∙ ap (λ (l : List ℕ). v ∷ l) after
 
 -- 20 digits are enough for 64 bits

@@ -1,5 +1,5 @@
--- `listing::text::put_signed` meets its contract: a negative number is "-" and the digits of what it lacks to 0, by the two forms of a whole number.
--- Assumes nothing.
+-- `listing::text::put_signed` meets its contract: a negative number is "-" and the digits of what it lacks to 0, by the two forms of a
+-- whole number. Assumes nothing.
 use mathlib.Core.Path.{_≡_, refl, sym, ap, _∙_, subst}
 use mathlib.Core.Bool.{true, false}
 use Prim.Native.Nat.{ℕ, suc, _+_, _≤_, _<_}
@@ -53,7 +53,8 @@ module _ {y v : ℤ} (h : Is 32768 y v) (t : ltZ v (pos 0) ≡ true) where
       bound = omega (arith, h .abs)
 
   turned-short : length (numeral true (natAbs (toZ w64 (ofZ w64 (pos 0 -ℤ v))))) ≤ 6
-  turned-short = subst (λ (z : ℤ). length (numeral true (natAbs z)) ≤ 6) (sym turned) (numeral-short true (natAbs v) 5 (short 4 (natAbs v) bound))
+  turned-short =
+      subst (λ (z : ℤ). length (numeral true (natAbs z)) ≤ 6) (sym turned) (numeral-short true (natAbs v) 5 (short 4 (natAbs v) bound))
     where
       bound : natAbs v < 100000
       bound = omega (arith, h .abs)

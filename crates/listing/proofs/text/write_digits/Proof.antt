@@ -1,5 +1,5 @@
--- `listing::text::write_digits` meets its contract: with the digits of what is left before them, the digits that stand are the number's, and a turn
--- takes the last of what is left. Assumes nothing.
+-- `listing::text::write_digits` meets its contract: with the digits of what is left before them, the digits that stand are the number's,
+-- and a turn takes the last of what is left. Assumes nothing.
 use mathlib.Core.Path.{_≡_, refl, sym, ap, _∙_}
 use mathlib.Core.List.{List, [], _∷_, _++_, append-assoc, append-nil}
 use Prim.Native.Nat.{ℕ, suc, _+_, _-_, _/_, _≤_, _<_}
@@ -42,7 +42,9 @@ module _ (n : ℕ) (old : List ℕ) where
         ∙ ap (λ (l : List ℕ). l ++ (lastDigit left ∷ drop (suc place) out)) front
       where
         front : take place out ≡ take place old
-        front = sym (take-take place (suc place) out (omega arith)) ∙ ap (take place) (w .before) ∙ take-take place (suc place) old (omega arith)
+        front =
+            sym (take-take place (suc place) out (omega arith)) ∙ ap (take place) (w .before)
+            ∙ take-take place (suc place) old (omega arith)
 
     long : length (take place old) ≡ place
     long = length-take-le place old (omega (arith, w .inside))
@@ -124,7 +126,8 @@ same-length c = let l = c .before .before in length-set (l .loop .text) (l .loop
 returns : tie.Need-returns Inv-loop μ-loop
 returns c =
     let l = c .before .before in
-    finish _ _ (l .loop .text) (l .loop .place) (l .loop .left) (c .digit2 .result) (l .loop .inv) (c .digit2 .ensures) (c .before .loop-test .left)
+    finish _ _ (l .loop .text) (l .loop .place) (l .loop .left) (c .digit2 .result) (l .loop .inv) (c .digit2 .ensures)
+    (c .before .loop-test .left)
 
 pub write-digits-spec : {M : Type 1} → statement M
 write-digits-spec =

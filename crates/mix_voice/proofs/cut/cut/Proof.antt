@@ -43,7 +43,9 @@ module _ (c : tie.Start) where
       few K h = omega arith
 
   diff : toZ w32 (toBits binary32 t) -ℤ toZ w32 (ofZ w32 (c .args .base)) ≡ pos (1241513984 + K) -ℤ baseBy (p .b)
-  diff = λ i. (toZ-ofZ fits ∙ ap pos (seen .bits)) i -ℤ (toZ-ofZ (c .fits .base) ∙ c .pre .1 .1 .1 ∙ ap (λ (y : Float). baseOf y) near ∙ p .base) i
+  diff =
+      λ i. (toZ-ofZ fits ∙ ap pos (seen .bits)) i -ℤ
+      (toZ-ofZ (c .fits .base) ∙ c .pre .1 .1 .1 ∙ ap (λ (y : Float). baseOf y) near ∙ p .base) i
 
   diff-ok : SFits w32 (toZ w32 (toBits binary32 t) -ℤ toZ w32 (ofZ w32 (c .args .base)))
   diff-ok = subst (λ (z : ℤ). SFits w32 z) (sym diff) (record { sfits = diff-fits (p .b) K (seen .most) })

@@ -43,8 +43,12 @@ loop-less c = search needs
 
 loop-again : tie.Need-loop-again Inv-loop μ-loop
 loop-again c =
-    let q = c .before .all-quick in
-    (omega arith, below-more _ _ (c .before .before .before .before .before .before .loop .inv .1) (ap allQuick (sym (c .before .before .before .before .gains-of .ensures)) ∙ sym (q .ensures) ∙ not-false (q .result) (c .if2 .left)))
+    let q = c .before .all-quick in (
+      omega arith,
+      below-more _ _ (c .before .before .before .before .before .before .loop .inv .1)
+          (ap allQuick (sym (c .before .before .before .before .gains-of .ensures)) ∙ sym (q .ensures)
+          ∙ not-false (q .result) (c .if2 .left)),
+    )
 
 returns-3 : tie.Need-returns-3 Inv-loop μ-loop
 returns-3 c e k h = c .before .loop .inv .1 k (omega (arith, h, c .loop-test .left))

@@ -36,28 +36,45 @@ array-read-ramped-mix-3 : tie.Need-array-read-ramped-mix-3
 array-read-ramped-mix-3 c = search needs
 
 gains-of-requires-5 : tie.Need-gains-of-requires-5
-gains-of-requires-5 c κs = (c .before .before .before .before .before .before .before .before .before .before .before .before .before .pre .1 .1 .1, lit< tt)
+gains-of-requires-5 c κs =
+    (c .before .before .before .before .before .before .before .before .before .before .before .before .before .pre .1 .1 .1, lit< tt)
 
 gains-of-requires-6 : tie.Need-gains-of-requires-6
-gains-of-requires-6 c κs = (c .before .before .before .before .before .before .before .before .before .before .before .before .before .before .pre .1 .1 .0, lit< tt)
+gains-of-requires-6 c κs = (
+  c .before .before .before .before .before .before .before .before .before .before .before .before .before .before .pre .1 .1 .0,
+  lit< tt,
+)
 
 ramped-mix-requires-3 : tie.Need-ramped-mix-requires-3
-ramped-mix-requires-3 c κs = (omega (arith, ap length (c .before .before .before .before .ramped-mix2 .ensures) ∙ length-mixed _ _ _), (c .before .before .before .before .before .before .before .before .before .before .before .before .before .before .before .pre .1 .0, lit< tt))
+ramped-mix-requires-3 c κs = (
+  omega (arith, ap length (c .before .before .before .before .ramped-mix2 .ensures) ∙ length-mixed _ _ _),
+  (
+    c .before .before .before .before .before .before .before .before .before .before .before .before .before .before .before .pre .1 .0,
+    lit< tt,
+  ),
+)
 
 same-length : tie.Need-same-length
 same-length c = search needs
 
 returns : tie.Need-returns
 returns c =
-    let a = c .before .before .before .before .before .before .before .before .before .before .before .before .before .before .before .before .before in
+    let a = c .before .before .before .before .before .before .before .before .before .before .before .before .before .before .before
+    .before .before in
     let marks = a .args .t5 in
     let ramp = a .args .ramp .now in
     let gains = a .args .gains .now in
     let frame = a .args .frame .now in
     each-is marks ramp gains frame (a .args .mixes .now) _ _ _ (a .pre .0)
-    (at-mix marks ramp gains frame 0 _ _ _ _ (c .before .before .before .before .before .before .before .before .before .before .before .before .before .gains-of .ensures) (c .before .before .before .before .before .before .before .before .before .before .before .before .gains-of2 .ensures) (c .before .before .before .before .before .before .before .before .before .before .before .ramped-mix .ensures))
-    (at-mix marks ramp gains frame 1 _ _ _ _ (c .before .before .before .before .before .before .before .before .gains-of3 .ensures) (c .before .before .before .before .before .before .before .gains-of4 .ensures) (c .before .before .before .before .before .before .ramped-mix2 .ensures))
-    (at-mix marks ramp gains frame 2 _ _ _ _ (c .before .before .before .gains-of5 .ensures) (c .before .before .gains-of6 .ensures) (c .before .ramped-mix3 .ensures))
+    (at-mix marks ramp gains frame 0 _ _ _ _
+    (c .before .before .before .before .before .before .before .before .before .before .before .before .before .gains-of .ensures)
+    (c .before .before .before .before .before .before .before .before .before .before .before .before .gains-of2 .ensures)
+    (c .before .before .before .before .before .before .before .before .before .before .before .ramped-mix .ensures))
+    (at-mix marks ramp gains frame 1 _ _ _ _ (c .before .before .before .before .before .before .before .before .gains-of3 .ensures)
+    (c .before .before .before .before .before .before .before .gains-of4 .ensures)
+    (c .before .before .before .before .before .before .ramped-mix2 .ensures))
+    (at-mix marks ramp gains frame 2 _ _ _ _ (c .before .before .before .gains-of5 .ensures) (c .before .before .gains-of6 .ensures)
+    (c .before .ramped-mix3 .ensures))
 
 pub each-mix-spec : {M : Type 1} → statement M
 each-mix-spec =

@@ -22,7 +22,9 @@ same-length c = search needs
 returns : tie.Need-returns
 returns c =
     let a = c .before .before .before .before .before .before .before .before .before in
-    c .before .quick-all .ensures ∙ unmarked (a .args .marks) (a .args .ramp .now) (a .args .gains .now) (a .args .frame .now) (a .args .mixes .now) (c .before .before .before .before .before .before .none-fades .ensures (c .before .before .before .before .before .if1 .taken))
+    c .before .quick-all .ensures ∙ unmarked (a .args .marks) (a .args .ramp .now) (a .args .gains .now) (a .args .frame .now)
+    (a .args .mixes .now) (c .before .before .before .before .before .before .none-fades .ensures
+    (c .before .before .before .before .before .if1 .taken))
 
 each-mix-requires : tie.Need-each-mix-requires
 each-mix-requires c κs = search needs

@@ -14,7 +14,9 @@ same-length c = search needs
 returns : tie.Need-returns
 returns c =
     let a = c .before .before .before .before in
-    c .before .slow-mix .ensures ∙ (λ i. mixed (a .args .m) (eitherAt (sym (c .before .before .before .if1 .taken) i) (a .args .from) (a .args .to) (a .args .frame .now)) (a .args .mixes .now))
+    c .before .slow-mix .ensures ∙
+    (λ i. mixed (a .args .m) (eitherAt (sym (c .before .before .before .if1 .taken) i) (a .args .from) (a .args .to) (a .args .frame .now))
+    (a .args .mixes .now))
 
 steady-mix-requires : tie.Need-steady-mix-requires
 steady-mix-requires c κs = search needs
@@ -25,7 +27,9 @@ same-length-2 c = search needs
 returns-2 : tie.Need-returns-2
 returns-2 c =
     let a = c .before .before .before .before in
-    c .before .steady-mix .ensures ∙ (λ i. mixed (a .args .m) (eitherAt (sym (c .before .before .before .if1 .left) i) (a .args .from) (a .args .to) (a .args .frame .now)) (a .args .mixes .now))
+    c .before .steady-mix .ensures
+    ∙ (λ i. mixed (a .args .m) (eitherAt (sym (c .before .before .before .if1 .left) i) (a .args .from) (a .args .to) (a .args .frame .now))
+    (a .args .mixes .now))
 
 pub ramped-mix-spec : {M : Type 1} → statement M
 ramped-mix-spec =

@@ -1,4 +1,5 @@
--- `mix_voice::fade::steady_mix` meets its contract: gains of 0.0 leave the mixes as they are, and the slow way is at `on` = false. Assumes nothing.
+-- `mix_voice::fade::steady_mix` meets its contract: gains of 0.0 leave the mixes as they are, and the slow way is at `on` = false. Assumes
+-- nothing.
 use mathlib.Core.Path.{sym, _∙_}
 use borrow.Author.Needs.{needs}
 use Rattle.mix_voice.proofs.Silence.{none-added}
@@ -20,7 +21,9 @@ same-length c = search needs
 returns : tie.Need-returns
 returns c =
     let a = c .before .before .before .before .before in
-    none-added (a .args .m) (a .args .g) (a .args .frame .now) (a .args .mixes .now) (sym (c .before .before .before .before .is-silent .ensures) ∙ c .before .before .before .if1 .taken) (a .pre .0) (c .before .before .ranged16 .ensures) (c .ranged32 .ensures)
+    none-added (a .args .m) (a .args .g) (a .args .frame .now) (a .args .mixes .now)
+    (sym (c .before .before .before .before .is-silent .ensures) ∙ c .before .before .before .if1 .taken) (a .pre .0)
+    (c .before .before .ranged16 .ensures) (c .ranged32 .ensures)
 
 all-quick-requires : tie.Need-all-quick-requires
 all-quick-requires c κs = search needs

@@ -23,7 +23,9 @@ is-quick-requires-2 c κs = search needs
 
 returns-2 : tie.Need-returns-2
 unfolding allQuick
-returns-2 c = sym (and-yes _ (first (c .before .before)) ∙ and-no _ (sym (c .before .is-quick2 .ensures) ∙ not-true (c .before .is-quick2 .result) (c .if2 .taken)))
+returns-2 c =
+    sym (and-yes _ (first (c .before .before))
+    ∙ and-no _ (sym (c .before .is-quick2 .ensures) ∙ not-true (c .before .is-quick2 .result) (c .if2 .taken)))
 
 second : (c : tie.Else2) → quick (c .before .before .before .before .args .g .g1) ≡ true
 second c = sym (c .before .is-quick2 .ensures) ∙ not-false (c .before .is-quick2 .result) (c .if2 .left)
@@ -34,7 +36,8 @@ is-quick-requires-3 c κs = search needs
 returns-3 : tie.Need-returns-3
 unfolding allQuick
 returns-3 c =
-    sym (and-yes _ (first (c .before .before .before .before)) ∙ and-yes _ (second (c .before .before)) ∙ and-no _ (sym (c .before .is-quick3 .ensures) ∙ not-true (c .before .is-quick3 .result) (c .if3 .taken)))
+    sym (and-yes _ (first (c .before .before .before .before)) ∙ and-yes _ (second (c .before .before))
+    ∙ and-no _ (sym (c .before .is-quick3 .ensures) ∙ not-true (c .before .is-quick3 .result) (c .if3 .taken)))
 
 is-quick-requires-4 : tie.Need-is-quick-requires-4
 is-quick-requires-4 c κs = search needs
@@ -44,7 +47,8 @@ unfolding allQuick
 returns-4 c =
     let t = c .before in
     c .is-quick4 .ensures
-    ∙ sym (and-yes _ (first (t .before .before .before .before)) ∙ and-yes _ (second (t .before .before)) ∙ and-yes _ (sym (t .before .is-quick3 .ensures) ∙ not-false (t .before .is-quick3 .result) (t .if3 .left)))
+    ∙ sym (and-yes _ (first (t .before .before .before .before)) ∙ and-yes _ (second (t .before .before))
+    ∙ and-yes _ (sym (t .before .is-quick3 .ensures) ∙ not-false (t .before .is-quick3 .result) (t .if3 .left)))
 
 pub all-quick-spec : {M : Type 1} → statement M
 all-quick-spec =

@@ -56,19 +56,50 @@ shared-slice-copy-out-b : tie.Need-shared-slice-copy-out-b Inv-loop μ-loop
 shared-slice-copy-out-b c = search needs
 
 quick-at-requires : tie.Need-quick-at-requires Inv-loop μ-loop
-quick-at-requires c κs = (omega (arith, c .before .before .before .before .loop .inv .1 .same, c .before .before .before .before .before .before .before .before .before .pre .0), ap allQuick (c .before .before .before .before .before .before .before .gains-of .ensures) ∙ c .before .before .before .before .before .before .before .before .before .pre .1 .1 .1 0 (lit< tt))
+quick-at-requires c κs = (
+  omega (
+    arith,
+    c .before .before .before .before .loop .inv .1 .same,
+    c .before .before .before .before .before .before .before .before .before .pre .0,
+  ),
+  ap allQuick (c .before .before .before .before .before .before .before .gains-of .ensures)
+      ∙ c .before .before .before .before .before .before .before .before .before .pre .1 .1 .1 0 (lit< tt),
+)
 
 add-quick-at : tie.Need-add-quick-at Inv-loop μ-loop
 add-quick-at c = search needs
 
 quick-at-requires-2 : tie.Need-quick-at-requires-2 Inv-loop μ-loop
-quick-at-requires-2 c κs = (omega (arith, ap length (c .before .before .quick-at .ensures) ∙ length-four _ _ _ _ _ _, c .before .before .before .before .before .before .before .loop .inv .1 .same, c .before .before .before .before .before .before .before .before .before .before .before .before .pre .0), ap allQuick (c .before .before .before .before .before .before .before .before .before .gains-of2 .ensures) ∙ c .before .before .before .before .before .before .before .before .before .before .before .before .pre .1 .1 .1 1 (lit< tt))
+quick-at-requires-2 c κs = (
+  omega (
+    arith,
+    ap length (c .before .before .quick-at .ensures)
+        ∙ length-four _ _ _ _ _ _,
+    c .before .before .before .before .before .before .before .loop .inv .1 .same,
+    c .before .before .before .before .before .before .before .before .before .before .before .before .pre .0,
+  ),
+  ap allQuick (c .before .before .before .before .before .before .before .before .before .gains-of2 .ensures)
+      ∙ c .before .before .before .before .before .before .before .before .before .before .before .before .pre .1 .1 .1 1 (lit< tt),
+)
 
 add-quick-at-2 : tie.Need-add-quick-at-2 Inv-loop μ-loop
 add-quick-at-2 c = search needs
 
 quick-at-requires-3 : tie.Need-quick-at-requires-3 Inv-loop μ-loop
-quick-at-requires-3 c κs = (omega (arith, ap length (c .before .before .quick-at2 .ensures) ∙ length-four _ _ _ _ _ _, ap length (c .before .before .before .before .before .quick-at .ensures) ∙ length-four _ _ _ _ _ _, c .before .before .before .before .before .before .before .before .before .before .loop .inv .1 .same, c .before .before .before .before .before .before .before .before .before .before .before .before .before .before .before .pre .0), ap allQuick (c .before .before .before .before .before .before .before .before .before .before .before .gains-of3 .ensures) ∙ c .before .before .before .before .before .before .before .before .before .before .before .before .before .before .before .pre .1 .1 .1 2 (lit< tt))
+quick-at-requires-3 c κs = (
+  omega (
+    arith,
+    ap length (c .before .before .quick-at2 .ensures)
+        ∙ length-four _ _ _ _ _ _,
+    ap length (c .before .before .before .before .before .quick-at .ensures)
+        ∙ length-four _ _ _ _ _ _,
+    c .before .before .before .before .before .before .before .before .before .before .loop .inv .1 .same,
+    c .before .before .before .before .before .before .before .before .before .before .before .before .before .before .before .pre .0,
+  ),
+  ap allQuick (c .before .before .before .before .before .before .before .before .before .before .before .gains-of3 .ensures)
+      ∙ c .before .before .before .before .before .before .before .before .before .before .before .before .before .before
+      .before .pre .1 .1 .1 2 (lit< tt),
+)
 
 add-i : tie.Need-add-i Inv-loop μ-loop
 add-i c = search needs
@@ -79,16 +110,25 @@ loop-less c = search needs
 loop-again : tie.Need-loop-again Inv-loop μ-loop
 loop-again c =
     let l = c .before .before .before .before .before .before .before .before .before .before .before .before .loop in
-    let a = c .before .before .before .before .before .before .before .before .before .before .before .before .before .before .before .before .before in
+    let a = c .before .before .before .before .before .before .before .before .before .before .before .before .before .before .before
+    .before .before in
     let i = l .i in
     let frame = a .args .frame .now in
     let x : SFits w16 (getD frame (i * 2) (pos 0)) = search needs in
     let y : SFits w16 (getD frame (i * 2 + 1) (pos 0)) = search needs in
-    let next : i + 1 ≤ «FRAME_SAMPLES» = omega (arith, c .before .before .before .before .before .before .before .before .before .before .before .loop-test .taken) in (
+    let next : i + 1 ≤ «FRAME_SAMPLES» = omega
+    (arith, c .before .before .before .before .before .before .before .before .before .before .before .loop-test .taken) in (
       next,
-      turn-all (a .args .gains .now) frame (a .args .mixes .now) (a .pre .0) i (l .mixes) _ _ _ _ _ _ _ _ (c .before .before .before .before .before .before .before .before .before .before .before .loop-test .taken) (l .inv .1) (toZ-ofZ x) (toZ-ofZ y)
-          (c .before .before .before .before .before .before .before .before .before .before .before .before .before .before .before .gains-of .ensures) (c .before .before .before .before .before .before .before .before .before .before .before .before .before .before .gains-of2 .ensures) (c .before .before .before .before .before .before .before .before .before .before .before .before .before .gains-of3 .ensures)
-          (c .before .before .before .before .before .before .before .quick-at .ensures) (c .before .before .before .before .quick-at2 .ensures) (c .before .quick-at3 .ensures),
+      turn-all (a .args .gains .now) frame (a .args .mixes .now) (a .pre .0) i (l .mixes) _ _ _ _ _ _ _ _
+          (c .before .before .before .before .before .before .before .before .before .before .before .loop-test .taken) (l .inv .1)
+          (toZ-ofZ x)
+          (toZ-ofZ y)
+          (c .before .before .before .before .before .before .before .before .before .before .before .before .before .before
+          .before .gains-of .ensures) (c .before .before .before .before .before .before .before .before .before .before .before .before
+          .before .before .gains-of2 .ensures)
+          (c .before .before .before .before .before .before .before .before .before .before .before .before .before .gains-of3 .ensures)
+          (c .before .before .before .before .before .before .before .quick-at .ensures)
+          (c .before .before .before .before .quick-at2 .ensures) (c .before .quick-at3 .ensures),
     )
 
 same-length : tie.Need-same-length Inv-loop μ-loop
@@ -99,7 +139,8 @@ unfolding voiced
 returns c =
     let a = c .before .before .before .before .before .before in
     let l = c .before .loop in
-    all-at-once (a .args .gains .now) (a .args .frame .now) (a .args .mixes .now) (a .pre .0) (l .i) (l .mixes) (l .inv .0) (c .loop-test .left) (l .inv .1)
+    all-at-once (a .args .gains .now) (a .args .frame .now) (a .args .mixes .now) (a .pre .0) (l .i) (l .mixes) (l .inv .0)
+    (c .loop-test .left) (l .inv .1)
 
 pub quick-all-spec : {M : Type 1} → statement M
 quick-all-spec =

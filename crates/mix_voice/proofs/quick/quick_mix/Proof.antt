@@ -1,4 +1,5 @@
--- `mix_voice::quick::quick_mix` meets its contract: after i turns the first i samples of each channel of the mix have their sums. Assumes nothing.
+-- `mix_voice::quick::quick_mix` meets its contract: after i turns the first i samples of each channel of the mix have their sums. Assumes
+-- nothing.
 use mathlib.Core.Bool.{false}
 use Prim.Native.Nat.{_+_, _-_, _*_, _≤_}
 use native.Mathlib.Omega.{arith}
@@ -52,7 +53,10 @@ add-quick-at : tie.Need-add-quick-at Inv-loop μ-loop
 add-quick-at c = search needs
 
 quick-at-requires : tie.Need-quick-at-requires Inv-loop μ-loop
-quick-at-requires c κs = (omega (arith, c .before .before .before .before .loop .inv .1 .same, c .before .before .before .before .before .pre .0), c .before .before .before .before .before .pre .1 .1 .1)
+quick-at-requires c κs = (
+  omega (arith, c .before .before .before .before .loop .inv .1 .same, c .before .before .before .before .before .pre .0),
+  c .before .before .before .before .before .pre .1 .1 .1,
+)
 
 add-i : tie.Need-add-i Inv-loop μ-loop
 add-i c = search needs
@@ -67,8 +71,12 @@ loop-again c =
     let i = l .i in
     let frame = a .args .frame .now in
     let x : SFits w16 (getD frame (i * 2) (pos 0)) = search needs in
-    let y : SFits w16 (getD frame (i * 2 + 1) (pos 0)) = search needs in
-    (omega arith, fade-turn false (a .args .g) (a .args .g) frame (a .args .m) (a .args .mixes .now) (a .pre .1 .1 .0) (a .pre .0) i (l .mixes) _ _ _ (c .before .before .before .before .before .loop-test .taken) (l .inv .1) (toZ-ofZ x) (toZ-ofZ y) (c .before .quick-at .ensures))
+    let y : SFits w16 (getD frame (i * 2 + 1) (pos 0)) = search needs in (
+      omega arith,
+      fade-turn false (a .args .g) (a .args .g) frame (a .args .m) (a .args .mixes .now) (a .pre .1 .1 .0) (a .pre .0) i
+          (l .mixes) _ _ _ (c .before .before .before .before .before .loop-test .taken) (l .inv .1) (toZ-ofZ x) (toZ-ofZ y)
+          (c .before .quick-at .ensures),
+    )
 
 same-length : tie.Need-same-length Inv-loop μ-loop
 same-length c = c .before .loop .inv .1 .same
@@ -77,7 +85,8 @@ returns : tie.Need-returns Inv-loop μ-loop
 returns c =
     let a = c .before .before in
     let l = c .before .loop in
-    mixed-is (a .args .m) (steadyAt (a .args .g) (a .args .frame .now)) (a .args .mixes .now) (a .pre .1 .1 .0) (a .pre .0) (l .i) (l .mixes) (l .inv .0) (c .loop-test .left) (l .inv .1)
+    mixed-is (a .args .m) (steadyAt (a .args .g) (a .args .frame .now)) (a .args .mixes .now) (a .pre .1 .1 .0) (a .pre .0) (l .i)
+    (l .mixes) (l .inv .0) (c .loop-test .left) (l .inv .1)
 
 pub quick-mix-spec : {M : Type 1} → statement M
 quick-mix-spec =

@@ -28,7 +28,8 @@ returns-2 c =
     let a = c .before .before .before in
     result-read w32 (c .fading .result) (c .fading .ok) ∙ c .fading .ensures
     ∙ ap (fading (a .args .from) (a .args .to) (a .args .i)) (toZ-ofZ (a .fits .sample))
-    ∙ sym (cond-yes _ (at-gain (a .args .to) (a .args .sample)) (not-false (a .args .on) (c .before .before .if1 .left)) ∙ cond-yes _ (at-gain (a .args .to) (a .args .sample)) (c .before .if2 .taken))
+    ∙ sym (cond-yes _ (at-gain (a .args .to) (a .args .sample)) (not-false (a .args .on) (c .before .before .if1 .left))
+    ∙ cond-yes _ (at-gain (a .args .to) (a .args .sample)) (c .before .if2 .taken))
 
 at-gain-requires-2 : tie.Need-at-gain-requires-2
 at-gain-requires-2 c κs = search needs
@@ -38,7 +39,8 @@ returns-3 c =
     let a = c .before .before .before in
     result-read w32 (c .at-gain2 .result) (c .at-gain2 .ok) ∙ c .at-gain2 .ensures
     ∙ ap (at-gain (a .args .to)) (toZ-ofZ (a .fits .sample))
-    ∙ sym (cond-yes _ (at-gain (a .args .to) (a .args .sample)) (not-false (a .args .on) (c .before .before .if1 .left)) ∙ cond-no (fading (a .args .from) (a .args .to) (a .args .i) (a .args .sample)) _ (c .before .if2 .left))
+    ∙ sym (cond-yes _ (at-gain (a .args .to) (a .args .sample)) (not-false (a .args .on) (c .before .before .if1 .left))
+    ∙ cond-no (fading (a .args .from) (a .args .to) (a .args .i) (a .args .sample)) _ (c .before .if2 .left))
 
 pub part-of-spec : {M : Type 1} → statement M
 part-of-spec =

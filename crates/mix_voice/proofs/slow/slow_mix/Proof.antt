@@ -1,4 +1,5 @@
--- `mix_voice::slow::slow_mix` meets its contract: after i turns the first i samples of each channel of the mix have their sums. Assumes nothing.
+-- `mix_voice::slow::slow_mix` meets its contract: after i turns the first i samples of each channel of the mix have their sums. Assumes
+-- nothing.
 use mathlib.Core.Path.{_∙_}
 use Prim.Native.Nat.{_+_, _-_, _*_, _≤_}
 use native.Mathlib.Omega.{arith}
@@ -65,7 +66,12 @@ add-add-four : tie.Need-add-add-four Inv-loop μ-loop
 add-add-four c = search needs
 
 add-four-requires : tie.Need-add-four-requires Inv-loop μ-loop
-add-four-requires c κs = omega (arith, c .before .before .before .before .before .before .before .before .loop .inv .1 .same, c .before .before .before .before .before .before .before .before .before .pre .0)
+add-four-requires c κs =
+    omega (
+      arith,
+      c .before .before .before .before .before .before .before .before .loop .inv .1 .same,
+      c .before .before .before .before .before .before .before .before .before .pre .0,
+    )
 
 add-i : tie.Need-add-i Inv-loop μ-loop
 add-i c = search needs
@@ -85,12 +91,18 @@ loop-again c =
     let n1 = c .before .before .before .before .before .part-of2 in
     let n2 = c .before .before .before .before .part-of3 in
     let n3 = c .before .before .before .part-of4 in
-    let next : i + 1 ≤ «FRAME_SAMPLES» = omega (arith, c .before .before .before .before .before .before .before .before .before .loop-test .taken) in
+    let next : i + 1 ≤ «FRAME_SAMPLES» = omega
+    (arith, c .before .before .before .before .before .before .before .before .before .loop-test .taken) in
     let e0 = result-read w32 (n0 .result) (n0 .ok) ∙ n0 .ensures in
     let e1 = result-read w32 (n1 .result) (n1 .ok) ∙ n1 .ensures in
     let e2 = result-read w32 (n2 .result) (n2 .ok) ∙ n2 .ensures in
-    let e3 = result-read w32 (n3 .result) (n3 .ok) ∙ n3 .ensures in
-    (next, fade-turn (a .args .on) (a .args .from) (a .args .to) frame (a .args .m) (a .args .mixes .now) (a .pre .1 .1) (a .pre .0) i (l .mixes) _ _ _ (c .before .before .before .before .before .before .before .before .before .loop-test .taken) (l .inv .1) (toZ-ofZ x) (toZ-ofZ y) (c .before .add-four .ensures ∙ (λ j. four (e0 j) (e1 j) (e2 j) (e3 j) (a .args .m * 640 + i) (l .mixes))))
+    let e3 = result-read w32 (n3 .result) (n3 .ok) ∙ n3 .ensures in (
+      next,
+      fade-turn (a .args .on) (a .args .from) (a .args .to) frame (a .args .m) (a .args .mixes .now) (a .pre .1 .1) (a .pre .0) i
+          (l .mixes) _ _ _ (c .before .before .before .before .before .before .before .before .before .loop-test .taken) (l .inv .1)
+          (toZ-ofZ x)
+          (toZ-ofZ y) (c .before .add-four .ensures ∙ (λ j. four (e0 j) (e1 j) (e2 j) (e3 j) (a .args .m * 640 + i) (l .mixes))),
+    )
 
 same-length : tie.Need-same-length Inv-loop μ-loop
 same-length c = c .before .loop .inv .1 .same
@@ -99,7 +111,8 @@ returns : tie.Need-returns Inv-loop μ-loop
 returns c =
     let a = c .before .before in
     let l = c .before .loop in
-    mixed-is (a .args .m) (eitherAt (a .args .on) (a .args .from) (a .args .to) (a .args .frame .now)) (a .args .mixes .now) (a .pre .1 .1) (a .pre .0) (l .i) (l .mixes) (l .inv .0) (c .loop-test .left) (l .inv .1)
+    mixed-is (a .args .m) (eitherAt (a .args .on) (a .args .from) (a .args .to) (a .args .frame .now)) (a .args .mixes .now) (a .pre .1 .1)
+    (a .pre .0) (l .i) (l .mixes) (l .inv .0) (c .loop-test .left) (l .inv .1)
 
 pub slow-mix-spec : {M : Type 1} → statement M
 slow-mix-spec =

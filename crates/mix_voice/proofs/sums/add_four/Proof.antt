@@ -37,9 +37,14 @@ returns c =
     let a = c .before .before .before .before .before .before .before .before .before .before .before .before in
     let l = a .args .mixes .now in
     let at = a .args .at in
-    let e1 : c .before .before .before .before .before .before .before .before .before .before .add-at .last .0 ≡ bump l at (a .args .n0) = c .before .before .before .before .before .before .before .before .before .before .add-at .ensures ∙ (λ i. bump l at (toZ-ofZ (a .fits .n0) i)) in
-    let e2 : c .before .before .before .before .before .before .before .add-at2 .last .0 ≡ bump (bump l at (a .args .n0)) (at + 160) (a .args .n1) = c .before .before .before .before .before .before .before .add-at2 .ensures ∙ (λ i. bump (e1 i) (at + 160) (toZ-ofZ (a .fits .n1) i)) in
-    let e3 : c .before .before .before .before .add-at3 .last .0 ≡ bump (bump (bump l at (a .args .n0)) (at + 160) (a .args .n1)) (at + 320) (a .args .n2) = c .before .before .before .before .add-at3 .ensures ∙ (λ i. bump (e2 i) (at + 320) (toZ-ofZ (a .fits .n2) i)) in
+    let e1 : c .before .before .before .before .before .before .before .before .before .before .add-at .last .0 ≡ bump l at
+    (a .args .n0) = c .before .before .before .before .before .before .before .before .before .before .add-at .ensures
+    ∙ (λ i. bump l at (toZ-ofZ (a .fits .n0) i)) in
+    let e2 : c .before .before .before .before .before .before .before .add-at2 .last .0 ≡ bump (bump l at (a .args .n0)) (at + 160)
+    (a .args .n1) = c .before .before .before .before .before .before .before .add-at2 .ensures
+    ∙ (λ i. bump (e1 i) (at + 160) (toZ-ofZ (a .fits .n1) i)) in
+    let e3 : c .before .before .before .before .add-at3 .last .0 ≡ bump (bump (bump l at (a .args .n0)) (at + 160) (a .args .n1)) (at + 320)
+    (a .args .n2) = c .before .before .before .before .add-at3 .ensures ∙ (λ i. bump (e2 i) (at + 320) (toZ-ofZ (a .fits .n2) i)) in
     c .before .add-at4 .ensures ∙ (λ i. bump (e3 i) (at + 480) (toZ-ofZ (a .fits .n3) i))
 
 pub add-four-spec : {M : Type 1} → statement M

@@ -28,13 +28,16 @@ returns-2 c = sym (and-yes _ (is-zero _ (c .before .before .if1 .left)) ∙ and-
 
 returns-3 : tie.Need-returns-3
 unfolding silent
-returns-3 c = sym (and-yes _ (is-zero _ (c .before .before .before .before .if1 .left)) ∙ and-yes _ (is-zero _ (c .before .before .if2 .left)) ∙ and-no _ (no-zero _ (c .if3 .taken)))
+returns-3 c =
+    sym (and-yes _ (is-zero _ (c .before .before .before .before .if1 .left)) ∙ and-yes _ (is-zero _ (c .before .before .if2 .left))
+    ∙ and-no _ (no-zero _ (c .if3 .taken)))
 
 returns-4 : tie.Need-returns-4
 unfolding silent
 returns-4 c =
     ap (eq (c .before .before .before .before .before .before .before .args .g .g3)) zero-32
-    ∙ sym (and-yes _ (is-zero _ (c .before .before .before .before .before .if1 .left)) ∙ and-yes _ (is-zero _ (c .before .before .before .if2 .left)) ∙ and-yes _ (is-zero _ (c .before .if3 .left)))
+    ∙ sym (and-yes _ (is-zero _ (c .before .before .before .before .before .if1 .left))
+    ∙ and-yes _ (is-zero _ (c .before .before .before .if2 .left)) ∙ and-yes _ (is-zero _ (c .before .if3 .left)))
 
 pub is-silent-spec : {M : Type 1} → statement M
 is-silent-spec = tie.close (tie.spec returns returns-2 returns-3 returns-4)

@@ -36,7 +36,9 @@ returns c =
     let from = start .args .from in
     result-read w32 (c .cast-i32 .result) (c .cast-i32 .ok)
     ∙ c .cast-i32 .ensures
-    ∙ (λ k. cast-i32 (mul binary32 (add binary32 from (mul binary32 (sub binary32 (start .args .to) from) (div binary32 (single (pos (start .args .i))) (last-is k)))) (sample k)))
+    ∙ (λ k. cast-i32 (mul binary32
+    (add binary32 from (mul binary32 (sub binary32 (start .args .to) from) (div binary32 (single (pos (start .args .i))) (last-is k))))
+    (sample k)))
 
 pub fading-spec : {M : Type 1} → statement M
 fading-spec =

@@ -22,7 +22,8 @@ returns-2 : tie.Need-returns-2
 returns-2 c =
     let tested = c .before .before in
     c .double-of-single .ensures
-    ∙ rate-yes (tested .before .before .args .bits) (sym (tested .before .finite-bits .ensures) ∙ not-false _ (tested .if1 .left)) (c .before .if2 .taken)
+    ∙ rate-yes (tested .before .before .args .bits) (sym (tested .before .finite-bits .ensures) ∙ not-false _ (tested .if1 .left))
+    (c .before .if2 .taken)
 
 returns-3 : tie.Need-returns-3
 returns-3 c = rate-not-above (c .before .before .before .args .bits) (c .if2 .left)

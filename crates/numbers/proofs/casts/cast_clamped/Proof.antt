@@ -24,12 +24,14 @@ size-requires c κs = search needs
 whole-part-requires : tie.Need-whole-part-requires
 whole-part-requires c κs =
     let h = c .before .held in
-    subst (λ (a : Float). Small a) (sym (c .size .ensures ∙ ap (λ (z : Float). sizeOf z) (h .ensures))) (holds (c .before .before .args .x) .small)
+    subst (λ (a : Float). Small a) (sym (c .size .ensures ∙ ap (λ (z : Float). sizeOf z) (h .ensures)))
+    (holds (c .before .before .args .x) .small)
 
 with-sign-requires : tie.Need-with-sign-requires
 with-sign-requires c κs = search needs
 
-clamped : (c : tie.After-with-sign) → toZ w32 (ofZ w32 (c .with-sign .result)) ≡ clamp16 (cast-i32 (c .before .before .before .before .args .x))
+clamped :
+    (c : tie.After-with-sign) → toZ w32 (ofZ w32 (c .with-sign .result)) ≡ clamp16 (cast-i32 (c .before .before .before .before .args .x))
 clamped c =
     let r = c .with-sign in
     let n = c .before .whole-part in

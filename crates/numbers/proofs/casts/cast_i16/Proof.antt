@@ -24,7 +24,9 @@ double-size-requires c κs = search needs
 double-whole-requires : tie.Need-double-whole-requires
 double-whole-requires c κs =
     let x = c .before .before .args .x in
-    subst (λ (a : Float). Upto 4294967295 a) (sym (c .double-size .ensures ∙ ap (λ (z : Float). sizeOf z) (c .before .double-held .ensures))) (wide-enough (sizeOf (held x)) (holds x .small))
+    subst (λ (a : Float). Upto 4294967295 a)
+    (sym (c .double-size .ensures ∙ ap (λ (z : Float). sizeOf z) (c .before .double-held .ensures)))
+    (wide-enough (sizeOf (held x)) (holds x .small))
 
 double-with-sign-requires : tie.Need-double-with-sign-requires
 double-with-sign-requires c κs = search needs
@@ -35,8 +37,10 @@ signed c =
     let s = c .before .before .double-size in
     let h = c .before .before .before .double-held in
     c .double-with-sign .ensures
-    ∙ ap (λ (y : Float). cond (lt (h .result) +0) (sub binary64 +0 y) y) (n .ensures ∙ ap (λ (a : Float). double (pos (wholeOf a))) (s .ensures))
-    ∙ ap (λ (z : Float). cond (lt z +0) (sub binary64 +0 (double (pos (wholeOf (sizeOf z))))) (double (pos (wholeOf (sizeOf z))))) (h .ensures)
+    ∙ ap (λ (y : Float). cond (lt (h .result) +0) (sub binary64 +0 y) y)
+    (n .ensures ∙ ap (λ (a : Float). double (pos (wholeOf a))) (s .ensures))
+    ∙ ap (λ (z : Float). cond (lt z +0) (sub binary64 +0 (double (pos (wholeOf (sizeOf z))))) (double (pos (wholeOf (sizeOf z)))))
+    (h .ensures)
     ∙ signed-whole (c .before .before .before .before .args .x)
 
 float-to-int-result : tie.Need-float-to-int-result
@@ -48,7 +52,8 @@ returns : tie.Need-returns
 returns c =
     let x = c .before .before .before .before .before .args .x in
     let y = c .before .double-with-sign .result in
-    result-read w16 (toSigned 15 y) (toSigned-in 15 y) ∙ ap (toSigned 15) (signed (c .before)) ∙ signed-back (cast-i16 x) (toSigned-in 15 x) .1
+    result-read w16 (toSigned 15 y) (toSigned-in 15 y) ∙ ap (toSigned 15) (signed (c .before))
+    ∙ signed-back (cast-i16 x) (toSigned-in 15 x) .1
 
 pub cast-i16-spec : {M : Type 1} → statement M
 cast-i16-spec =

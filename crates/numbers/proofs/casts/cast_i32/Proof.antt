@@ -18,14 +18,16 @@ unfolding ofBits neg
 cast-result c =
     let x = c .before .before .before .args .x in
     let r = c .truncating-f32-to-i64 in
-    narrow-fits w32 x (r .result) (r .ok) (r .ensures) (within 31 (lit≤ tt) x (yes (c .before .before .if1 .taken)) (yes (c .before .if2 .taken)))
+    narrow-fits w32 x (r .result) (r .ok) (r .ensures)
+    (within 31 (lit≤ tt) x (yes (c .before .before .if1 .taken)) (yes (c .before .if2 .taken)))
 
 returns : tie.Need-returns
 unfolding ofBits neg
 returns c =
     let x = c .before .before .before .args .x in
     let r = c .truncating-f32-to-i64 in
-    narrow w32 x (r .result) (r .ok) (r .ensures) (within 31 (lit≤ tt) x (yes (c .before .before .if1 .taken)) (yes (c .before .if2 .taken)))
+    narrow w32 x (r .result) (r .ok) (r .ensures)
+    (within 31 (lit≤ tt) x (yes (c .before .before .if1 .taken)) (yes (c .before .if2 .taken)))
 
 returns-2 : tie.Need-returns-2
 unfolding ofBits neg

@@ -21,7 +21,8 @@ whole-u32-requires c κs = search needs
 float-to-int-result : tie.Need-float-to-int-result
 float-to-int-result c =
     let k = toUnsigned 32 (c .before .before .args .x) in
-    subst (λ (y : Float). T (inUnsigned binary64 32 y)) (sym (c .before .whole-u32 .ensures)) (back k (toUnsigned-lt 32 (c .before .before .args .x)) .0)
+    subst (λ (y : Float). T (inUnsigned binary64 32 y)) (sym (c .before .whole-u32 .ensures))
+    (back k (toUnsigned-lt 32 (c .before .before .args .x)) .0)
 
 returns : tie.Need-returns
 returns c =

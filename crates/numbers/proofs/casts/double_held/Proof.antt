@@ -20,7 +20,8 @@ unfolding held
 returns c =
     let x = c .before .before .before .args .x in
     let most = c .before .before .double-at-most .ensures ∙ ap (λ (b : Float). at-most b x) top-64 in
-    c .before .double-at-least .ensures ∙ (λ i. at-least (bottom-64 i) (most i)) ∙ sym (cond-yes (at-least bottom (at-most top x)) +0 (c .if1 .taken))
+    c .before .double-at-least .ensures ∙ (λ i. at-least (bottom-64 i) (most i))
+    ∙ sym (cond-yes (at-least bottom (at-most top x)) +0 (c .if1 .taken))
 
 returns-2 : tie.Need-returns-2
 unfolding held

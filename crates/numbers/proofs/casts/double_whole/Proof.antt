@@ -29,14 +29,18 @@ module _ (a : Float) (h : Upto 4294967295 a) where
   few = omega (arith, f .most)
 
   lowered : (b : Bool) → lt a (near a) ≡ b → sub binary64 (near a) (cond b +1 +0) ≡ ofInt binary64 (pos (wholeOf a))
-  lowered true t = ap (λ (x : Float). sub binary64 x +1) near-is ∙ sub-whole binary64 (f .k) 1 +1 few (omega (arith, one-more)) (refl, refl) ∙ ap (λ (x : ℕ). ofInt binary64 (pos x)) same
+  lowered true t =
+      ap (λ (x : Float). sub binary64 x +1) near-is ∙ sub-whole binary64 (f .k) 1 +1 few (omega (arith, one-more)) (refl, refl)
+      ∙ ap (λ (x : ℕ). ofInt binary64 (pos x)) same
     where
       one-more : f .k ≡ wholeOf a + 1
       one-more = f .over (ap (lt a) (sym near-is) ∙ t)
 
       same : f .k - 1 ≡ wholeOf a
       same = omega (arith, one-more)
-  lowered false t = ap (λ (x : Float). sub binary64 x +0) near-is ∙ sub-whole binary64 (f .k) 0 +0 few (omega arith) (refl, refl) ∙ ap (λ (x : ℕ). ofInt binary64 (pos x)) same
+  lowered false t =
+      ap (λ (x : Float). sub binary64 x +0) near-is ∙ sub-whole binary64 (f .k) 0 +0 few (omega arith) (refl, refl)
+      ∙ ap (λ (x : ℕ). ofInt binary64 (pos x)) same
     where
       same : f .k - 0 ≡ wholeOf a
       same = omega (arith, f .not-over (ap (lt a) (sym near-is) ∙ t))

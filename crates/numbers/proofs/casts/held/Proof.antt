@@ -20,7 +20,8 @@ unfolding held
 returns c =
     let x = c .before .before .before .args .x in
     let most = c .before .before .at-most .ensures ∙ ap (λ (b : Float). at-most b x) top-32 in
-    c .before .at-least .ensures ∙ (λ i. at-least (bottom-32 i) (most i)) ∙ sym (cond-yes (at-least bottom (at-most top x)) +0 (c .if1 .taken))
+    c .before .at-least .ensures ∙ (λ i. at-least (bottom-32 i) (most i))
+    ∙ sym (cond-yes (at-least bottom (at-most top x)) +0 (c .if1 .taken))
 
 returns-2 : tie.Need-returns-2
 unfolding held

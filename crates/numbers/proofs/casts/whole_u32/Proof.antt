@@ -25,7 +25,8 @@ double-whole-requires c κs = subst (λ (a : Float). Upto 4294967295 a) (sym (he
 
 returns : tie.Need-returns
 returns c =
-    c .double-whole .ensures ∙ ap (λ (a : Float). double (pos (wholeOf a))) (held-is (c .before)) ∙ ap (λ (k : ℕ). double (pos k)) (whole-u32-is (c .before .before .before .args .x))
+    c .double-whole .ensures ∙ ap (λ (a : Float). double (pos (wholeOf a))) (held-is (c .before))
+    ∙ ap (λ (k : ℕ). double (pos k)) (whole-u32-is (c .before .before .before .args .x))
 
 pub whole-u32-spec : {M : Type 1} → statement M
 whole-u32-spec =

@@ -31,7 +31,8 @@ returns : tie.Need-returns
 returns c =
     let n = c .before .args .n in
     let z = c .before .args .z in
-    is-read w32 (turned n (c .before .fits .n) (c .before .pre)) tt .is ∙ sym (cond-yes (negℤ n) n (ap (lt z) (sym zero-32) ∙ c .if1 .taken))
+    is-read w32 (turned n (c .before .fits .n) (c .before .pre)) tt .is
+    ∙ sym (cond-yes (negℤ n) n (ap (lt z) (sym zero-32) ∙ c .if1 .taken))
 
 returns-2 : tie.Need-returns-2
 returns-2 c =

@@ -38,7 +38,8 @@ loop-again c = (omega arith, below-more _ _ (c .before .before .loop .inv .1) (c
 returns : tie.Need-returns Inv-loop μ-loop
 returns c =
     let l = c .before .loop in
-    everywhere (λ (z : ℤ). mag z < 32768) (c .before .before .args .values .now) (pos 0) (lit< tt) (λ k h. l .inv .1 k (omega (arith, h, c .loop-test .left)))
+    everywhere (λ (z : ℤ). mag z < 32768) (c .before .before .args .values .now) (pos 0) (lit< tt)
+    (λ k h. l .inv .1 k (omega (arith, h, c .loop-test .left)))
 
 pub ranged16-spec : {M : Type 1} → statement M
 ranged16-spec =

@@ -17,7 +17,9 @@ wide32-requires-2 : tie.Need-wide32-requires-2
 wide32-requires-2 c κs = search needs
 
 -- the sum, with its bound
-both : (c : tie.After-wide322) → Is 4294967296 (c .before .before .args .a +ℤ c .before .before .args .b) (toZ w64 (ofZ w64 (c .before .wide32 .result)) +ℤ toZ w64 (ofZ w64 (c .wide322 .result)))
+both :
+    (c : tie.After-wide322) → Is 4294967296 (c .before .before .args .a +ℤ c .before .before .args .b)
+    (toZ w64 (ofZ w64 (c .before .wide32 .result)) +ℤ toZ w64 (ofZ w64 (c .wide322 .result)))
 both c =
     let s = c .before .before in
     is-add (is-read w64 (is-arg (s .fits .a) (c .before .wide32 .ensures)) tt) (is-read w64 (is-arg (s .fits .b) (c .wide322 .ensures)) tt)

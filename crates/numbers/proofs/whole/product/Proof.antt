@@ -15,7 +15,9 @@ wide16-requires-2 : tie.Need-wide16-requires-2
 wide16-requires-2 c κs = search needs
 
 -- the product, with its bound
-both : (c : tie.After-wide162) → Is 1073741824 (c .before .before .args .a *ℤ c .before .before .args .b) (toZ w64 (ofZ w64 (c .before .wide16 .result)) *ℤ toZ w64 (ofZ w64 (c .wide162 .result)))
+both :
+    (c : tie.After-wide162) → Is 1073741824 (c .before .before .args .a *ℤ c .before .before .args .b)
+    (toZ w64 (ofZ w64 (c .before .wide16 .result)) *ℤ toZ w64 (ofZ w64 (c .wide162 .result)))
 both c =
     let s = c .before .before in
     is-mul (is-read w64 (is-arg (s .fits .a) (c .before .wide16 .ensures)) tt) (is-read w64 (is-arg (s .fits .b) (c .wide162 .ensures)) tt)

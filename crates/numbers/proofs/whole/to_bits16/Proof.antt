@@ -28,7 +28,8 @@ cast-result c = bits-fits w16 (low c) (omega (arith, below c)) (below c)
 returns : tie.Need-returns
 returns c =
     let h = is-arg (c .before .fits .v) (c .wide16 .ensures) in
-    ap natAbs (small (low c) (omega (arith, below c))) ∙ low-is16 (c .wide16 .result) (is-fits w64 h tt) ∙ ap (λ (z : ℤ). modZ z 65536) (h .is)
+    ap natAbs (small (low c) (omega (arith, below c))) ∙ low-is16 (c .wide16 .result) (is-fits w64 h tt)
+    ∙ ap (λ (z : ℤ). modZ z 65536) (h .is)
 
 pub to-bits16-spec : {M : Type 1} → statement M
 to-bits16-spec = tie.close (tie.spec wide16-requires cast-result returns)

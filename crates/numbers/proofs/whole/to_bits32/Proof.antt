@@ -28,7 +28,8 @@ cast-result c = bits-fits w32 (low c) (omega (arith, below c)) (below c)
 returns : tie.Need-returns
 returns c =
     let h = is-arg (c .before .fits .v) (c .wide32 .ensures) in
-    ap natAbs (small (low c) (omega (arith, below c))) ∙ low-is (c .wide32 .result) (is-fits w64 h tt) ∙ ap (λ (z : ℤ). modZ z 4294967296) (h .is)
+    ap natAbs (small (low c) (omega (arith, below c))) ∙ low-is (c .wide32 .result) (is-fits w64 h tt)
+    ∙ ap (λ (z : ℤ). modZ z 4294967296) (h .is)
 
 pub to-bits32-spec : {M : Type 1} → statement M
 to-bits32-spec = tie.close (tie.spec wide32-requires cast-result returns)

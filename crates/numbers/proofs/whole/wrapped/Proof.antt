@@ -1,4 +1,5 @@
--- `numbers::whole::wrapped` meets its contract. The lower 32 bits are the remainder, and each half of them is read as signed. Assumes nothing.
+-- `numbers::whole::wrapped` meets its contract. The lower 32 bits are the remainder, and each half of them is read as signed. Assumes
+-- nothing.
 use mathlib.Core.Path.{sym, ap, _∙_, subst}
 use Prim.Native.Nat.{ℕ, _<_}
 use lib.Bits.{bitAnd}

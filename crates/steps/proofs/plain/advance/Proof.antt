@@ -23,9 +23,11 @@ returns c =
     let t = c .before .before .before .before in
     let s = t .before in
     let a = s .args in
-    let e : a .rate ≡ +1 = one-unique (a .rate) (subst T (sym (s .good .1 .0 .1)) tt) (ap (λ (y : Float). eq (a .rate) y) (sym one-64) ∙ t .if1 .taken) in (
+    let e : a .rate ≡ +1 = one-unique (a .rate) (subst T (sym (s .good .1 .0 .1)) tt)
+    (ap (λ (y : Float). eq (a .rate) y) (sym one-64) ∙ t .if1 .taken) in (
       subst (λ (r : Float). Stretched r (a .c) (160 - a .output) (c .plain .result)) (sym e) (c .plain .ensures .0),
-      c .plain .ensures .1 ∙ ap (λ (r : Float). played r (a .c) (now (a .samples)) (a .output) (c .plain .result .count) (now (a .frame))) (sym e),
+      c .plain .ensures .1 ∙ ap (λ (r : Float). played r (a .c) (now (a .samples)) (a .output) (c .plain .result .count) (now (a .frame)))
+          (sym e),
     )
 
 stretch-requires : tie.Need-stretch-requires

@@ -40,8 +40,10 @@ fewer-requires c κs = search needs
 returns : tie.Need-returns Inv-loop μ-loop
 returns c =
     let s = c .before .before .before in
-    let a = s .args in
-    (none-reached (a .c) (160 - a .output) (s .pre .1 .1 .1) (omega arith), none-played (a .c) (now (a .samples)) (a .output) (now (a .frame)))
+    let a = s .args in (
+      none-reached (a .c) (160 - a .output) (s .pre .1 .1 .1) (omega arith),
+      none-played (a .c) (now (a .samples)) (a .output) (now (a .frame)),
+    )
 
 loop-holds : tie.Need-loop-holds Inv-loop μ-loop
 loop-holds c =
@@ -107,7 +109,8 @@ loop-again c =
     let y : toZ w16 (ofZ w16 x) ≡ x = toZ-ofZ (record { sfits = c .before .s .given }) in (
       omega arith,
       (λ j. both (l .loop .inv .1 j) (a .output + i) (y j))
-          ∙ sym (played-plain (a .c) (now (a .samples)) (a .output) i (now (a .frame)) (s .pre .1 .1 .1) (omega arith) (omega arith) (c .before .s .given) (c .next .given)),
+          ∙ sym (played-plain (a .c) (now (a .samples)) (a .output) i (now (a .frame)) (s .pre .1 .1 .1) (omega arith) (omega arith)
+          (c .before .s .given) (c .next .given)),
     )
 
 cast-t26 : tie.Need-cast-t26 Inv-loop μ-loop

@@ -29,7 +29,8 @@ is x y e = result-read w64 (toSigned 63 y) (toSigned-in 63 y) ∙ ap (toSigned 6
 cast-result : tie.Need-cast-result
 cast-result c =
     let x = c .before .args .w in
-    subst (λ (z : ℤ). T (nonNeg z) × Fits w64 (natAbs z)) (sym (is x (c .before .args .w) (c .before .pre))) (tt, record { fits = less (toUnsigned 32 x) (toUnsigned-lt 32 x) })
+    subst (λ (z : ℤ). T (nonNeg z) × Fits w64 (natAbs z)) (sym (is x (c .before .args .w) (c .before .pre)))
+    (tt, record { fits = less (toUnsigned 32 x) (toUnsigned-lt 32 x) })
   where
     less : (k : ℕ) → k < 4294967296 → k < 18446744073709551616
     less k h = omega arith
@@ -37,7 +38,8 @@ cast-result c =
 returns : tie.Need-returns
 returns c =
     let x = c .before .args .w in
-    let e : natAbs (toZ w64 (ofZ w64 (toSigned 63 (c .before .args .w)))) ≡ toUnsigned 32 x = ap natAbs (is x (c .before .args .w) (c .before .pre)) in
+    let e : natAbs (toZ w64 (ofZ w64 (toSigned 63 (c .before .args .w)))) ≡ toUnsigned 32 x = ap natAbs
+    (is x (c .before .args .w) (c .before .pre)) in
     (e, subst (λ (k : ℕ). k < 4294967296) (sym e) (toUnsigned-lt 32 x))
 
 pub counted-spec : {M : Type 1} → statement M

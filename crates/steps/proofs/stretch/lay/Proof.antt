@@ -26,14 +26,22 @@ abbrev μ-loop : tie.MeasureT-loop
 -- what is stored
 sample : (c : tie.After-interpolate Inv-loop μ-loop)
     → toZ w16 (ofZ w16 (c .interpolate .result))
-    ≡ interpolate (getD (now (c .before .before .before .before .before .before .args .pairs)) (c .before .before .before .before .before .loop .i * 2) (pos 0)) (getD (now (c .before .before .before .before .before .before .args .pairs)) (c .before .before .before .before .before .loop .i * 2 + 1) (pos 0)) (getD (now (c .before .before .before .before .before .before .args .fractions)) (c .before .before .before .before .before .loop .i) nan)
+    ≡ interpolate (getD (now (c .before .before .before .before .before .before .args .pairs))
+    (c .before .before .before .before .before .loop .i * 2) (pos 0))
+    (getD (now (c .before .before .before .before .before .before .args .pairs))
+    (c .before .before .before .before .before .loop .i * 2 + 1) (pos 0))
+    (getD (now (c .before .before .before .before .before .before .args .fractions))
+    (c .before .before .before .before .before .loop .i) nan)
 sample c =
     let v = c .before .before .before in
     let a = v .before .before .before .args in
     let i = v .before .before .loop .i in
-    let x : toZ w16 (ofZ w16 (getD (now (a .pairs)) (i * 2) (pos 0))) ≡ getD (now (a .pairs)) (i * 2) (pos 0) = toZ-ofZ (record { sfits = v .interpolate-arg .given }) in
-    let y : toZ w16 (ofZ w16 (getD (now (a .pairs)) (i * 2 + 1) (pos 0))) ≡ getD (now (a .pairs)) (i * 2 + 1) (pos 0) = toZ-ofZ (record { sfits = c .before .before .interpolate-arg2 .given }) in
-    result-read w16 (c .interpolate .result) (c .interpolate .ok) ∙ c .interpolate .ensures ∙ (λ j. interpolate (x j) (y j) (getD (now (a .fractions)) i nan))
+    let x : toZ w16 (ofZ w16 (getD (now (a .pairs)) (i * 2) (pos 0))) ≡ getD (now (a .pairs)) (i * 2) (pos 0) = toZ-ofZ
+    (record { sfits = v .interpolate-arg .given }) in
+    let y : toZ w16 (ofZ w16 (getD (now (a .pairs)) (i * 2 + 1) (pos 0))) ≡ getD (now (a .pairs)) (i * 2 + 1) (pos 0) = toZ-ofZ
+    (record { sfits = c .before .before .interpolate-arg2 .given }) in
+    result-read w16 (c .interpolate .result) (c .interpolate .ok) ∙ c .interpolate .ensures
+    ∙ (λ j. interpolate (x j) (y j) (getD (now (a .fractions)) i nan))
 
 loop-holds : tie.Need-loop-holds Inv-loop μ-loop
 unfolding laid
@@ -101,8 +109,11 @@ unfolding both
 loop-again c =
     let a = c .before .before .before .before .before .before .args in
     let l = c .before .before .before .before .before .loop in
-    let s = toZ w16 (ofZ w16 (c .interpolate .result)) in
-    (omega arith, (λ j. both (l .inv .1 j) (a .output + l .i) (sample c j)) ∙ sym (laid-next (now (a .pairs)) (now (a .fractions)) (a .output) (l .i) (now (a .frame))))
+    let s = toZ w16 (ofZ w16 (c .interpolate .result)) in (
+      omega arith,
+      (λ j. both (l .inv .1 j) (a .output + l .i) (sample c j))
+          ∙ sym (laid-next (now (a .pairs)) (now (a .fractions)) (a .output) (l .i) (now (a .frame))),
+    )
 
 returns : tie.Need-returns Inv-loop μ-loop
 returns c =

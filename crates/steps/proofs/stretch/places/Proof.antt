@@ -14,7 +14,9 @@ whole-u32-requires : tie.Need-whole-u32-requires
 whole-u32-requires c κs = search needs
 
 same : (c : tie.After-whole-u32) → cast-u32 (c .whole-u32 .result) ≡ cast-u32 (c .before .args .x)
-same c = ap (λ (y : Float). cast-u32 y) (c .whole-u32 .ensures) ∙ whole-back (cast-u32 (c .before .args .x)) (toUnsigned-lt 32 (c .before .args .x))
+same c =
+    ap (λ (y : Float). cast-u32 y) (c .whole-u32 .ensures)
+    ∙ whole-back (cast-u32 (c .before .args .x)) (toUnsigned-lt 32 (c .before .args .x))
 
 counted-requires : tie.Need-counted-requires
 counted-requires c κs = c .whole-u32 .ensures ∙ ap (λ (k : ℕ). double (pos k)) (sym (same c))

@@ -18,8 +18,11 @@ lay-requires c κs = search needs
 returns : tie.Need-returns
 returns c =
     let w = c .before .before .before .before .walk in
-    let a = c .before .before .before .before .before .before .before .args in
-    (w .ensures .0, c .lay .ensures ∙ laid-played (a .rate) (a .c) (now (a .samples)) _ _ (a .output) (w .result .count) (now (a .frame)) (w .ensures .1))
+    let a = c .before .before .before .before .before .before .before .args in (
+      w .ensures .0,
+      c .lay .ensures
+          ∙ laid-played (a .rate) (a .c) (now (a .samples)) _ _ (a .output) (w .result .count) (now (a .frame)) (w .ensures .1),
+    )
 
 pub stretch-spec : {M : Type 1} → statement M
 stretch-spec = tie.close (tie.spec sub-walk walk-requires lay-requires returns)

@@ -36,7 +36,8 @@ loop-holds : tie.Need-loop-holds Inv-loop μ-loop
 loop-holds c =
     let a = c .before .args in
     let q = c .before .pre .1 .1 .1 .1 in
-    begun (a .rate) _ (now (a .samples)) (now (a .pairs)) (now (a .fractions)) (a .room) (length (now (a .samples)) - a .c .remaining) (a .c .fraction) (omega arith) (q .0) (q .1) refl
+    begun (a .rate) _ (now (a .samples)) (now (a .pairs)) (now (a .fractions)) (a .room) (length (now (a .samples)) - a .c .remaining)
+    (a .c .fraction) (omega arith) (q .0) (q .1) refl
 
 places-requires : tie.Need-places-requires Inv-loop μ-loop
 places-requires c κs = search needs
@@ -105,11 +106,15 @@ loop-again c =
     let l = p .before .before .loop in
     let a = p .before .before .before .before .args in
     let N = length (now (a .samples)) in
-    let x : toZ w16 (ofZ w16 (getD (now (a .samples)) (l .at) (pos 0))) ≡ getD (now (a .samples)) (l .at) (pos 0) = toZ-ofZ (record { sfits = b .before .a .given }) in
-    let y : toZ w16 (ofZ w16 (getD (now (a .samples)) (l .at + 1) (pos 0))) ≡ getD (now (a .samples)) (l .at + 1) (pos 0) = toZ-ofZ (record { sfits = b .b .given }) in
-    turn (a .rate) (record { remaining = N - (N - a .c .remaining); fraction = a .c .fraction }) (now (a .samples)) (l .pairs) (l .fractions) (a .room) (l .at) (l .fraction) (l .k) (l .inv)
+    let x : toZ w16 (ofZ w16 (getD (now (a .samples)) (l .at) (pos 0))) ≡ getD (now (a .samples)) (l .at) (pos 0) = toZ-ofZ
+    (record { sfits = b .before .a .given }) in
+    let y : toZ w16 (ofZ w16 (getD (now (a .samples)) (l .at + 1) (pos 0))) ≡ getD (now (a .samples)) (l .at + 1) (pos 0) = toZ-ofZ
+    (record { sfits = b .b .given }) in
+    turn (a .rate) (record { remaining = N - (N - a .c .remaining); fraction = a .c .fraction }) (now (a .samples)) (l .pairs)
+    (l .fractions) (a .room) (l .at) (l .fraction) (l .k) (l .inv)
     (omega arith) (omega arith) _ _ (p .places .result) (c .at-least-0 .result) x y (p .places .ensures .0)
-    (c .at-least-0 .ensures ∙ ap (λ (w : Float). at-least-0 (sub binary64 (add binary64 (l .fraction) (a .rate)) w)) (c .before .whole-u32 .ensures))
+    (c .at-least-0 .ensures ∙ ap (λ (w : Float). at-least-0 (sub binary64 (add binary64 (l .fraction) (a .rate)) w))
+    (c .before .whole-u32 .ensures))
     (omega arith)
 
 sub-t16 : tie.Need-sub-t16 Inv-loop μ-loop
@@ -124,7 +129,8 @@ returns c =
     let l = c .before .loop in
     let N = length (now (a .samples)) in
     let e : N - (N - a .c .remaining) ≡ a .c .remaining = omega arith in
-    let i = subst (λ (n : ℕ). Loop (a .rate) (record { remaining = n; fraction = a .c .fraction }) (now (a .samples)) (l .pairs) (l .fractions) (a .room) (l .at) (l .fraction) (l .k)) e (l .inv) in
+    let i = subst (λ (n : ℕ). Loop (a .rate) (record { remaining = n; fraction = a .c .fraction }) (now (a .samples)) (l .pairs)
+    (l .fractions) (a .room) (l .at) (l .fraction) (l .k)) e (l .inv) in
     (record { count-most = i .most; cursor-is = i .is; inside = i .inside }, i .walked)
 
 pub walk-any-spec : {M : Type 1} → statement M

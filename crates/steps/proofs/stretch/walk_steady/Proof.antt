@@ -45,23 +45,30 @@ whole-u32-requires c κs = search needs
 loop-holds : tie.Need-loop-holds Inv-loop μ-loop
 loop-holds c =
     let a = c .before .before .args in
-    let q = c .before .before .pre .1 .1 .1 .1 in
-    (begun (a .rate) _ (now (a .samples)) (now (a .pairs)) (now (a .fractions)) (a .room) (length (now (a .samples)) - a .c .remaining) (a .c .fraction) (omega arith) (q .0) (q .1 .0) refl, q .1 .1 .0)
+    let q = c .before .before .pre .1 .1 .1 .1 in (
+      begun (a .rate) _ (now (a .samples)) (now (a .pairs)) (now (a .fractions)) (a .room) (length (now (a .samples)) - a .c .remaining)
+          (a .c .fraction) (omega arith) (q .0) (q .1 .0) refl,
+      q .1 .1 .0,
+    )
 
 one-from-requires : tie.Need-one-from-requires Inv-loop μ-loop
 one-from-requires c κs = search needs
 
 -- the step
 steps : (c : tie.Else1 Inv-loop μ-loop)
-    → Steps (c .before .before .before .loop .fraction) (c .before .before .before .before .before .before .args .rate) (add binary64 (c .before .before .before .before .whole-u32 .result) (c .before .one-from .result))
+    → Steps (c .before .before .before .loop .fraction) (c .before .before .before .before .before .before .args .rate)
+    (add binary64 (c .before .before .before .before .whole-u32 .result) (c .before .one-from .result))
 steps c =
     let l = c .before .before .before in
     let w = l .before in
     let a = w .before .before .args in
     let x = add binary64 (l .loop .fraction) (a .rate) in
-    stepped (l .loop .fraction) (a .rate) (w .whole-u32 .result) (c .before .one-from .result) (l .loop .inv .1) (w .before .before .pre .1 .1 .1 .1 .1 .1 .1) (w .whole-u32 .ensures)
+    stepped (l .loop .fraction) (a .rate) (w .whole-u32 .result) (c .before .one-from .result) (l .loop .inv .1)
+    (w .before .before .pre .1 .1 .1 .1 .1 .1 .1) (w .whole-u32 .ensures)
     (c .before .one-from .ensures ∙ ap (λ (y : Float). cond (lt x (add binary64 (w .whole-u32 .result) y)) +0 +1) one-64)
-    (ap (λ (y : Float). lt (sub binary64 x (add binary64 (w .whole-u32 .result) (c .before .one-from .result))) y) (sym one-64) ∙ not-false (lt (sub binary64 x (add binary64 (w .whole-u32 .result) (c .before .one-from .result))) (ofBits binary64 0x3ff0_0000_0000_0000)) (c .if1 .left))
+    (ap (λ (y : Float). lt (sub binary64 x (add binary64 (w .whole-u32 .result) (c .before .one-from .result))) y) (sym one-64)
+    ∙ not-false (lt (sub binary64 x (add binary64 (w .whole-u32 .result) (c .before .one-from .result)))
+    (ofBits binary64 0x3ff0_0000_0000_0000)) (c .if1 .left))
 
 counted-requires : tie.Need-counted-requires Inv-loop μ-loop
 counted-requires c κs = steps c .is ∙ ap (λ (n : ℕ). double (pos n)) (sym (steps c .count))
@@ -126,9 +133,12 @@ loop-again c =
     let l = p .loop in
     let a = p .before .before .before .args in
     let N = length (now (a .samples)) in
-    let x : toZ w16 (ofZ w16 (getD (now (a .samples)) (l .at) (pos 0))) ≡ getD (now (a .samples)) (l .at) (pos 0) = toZ-ofZ (record { sfits = b .before .a .given }) in
-    let y : toZ w16 (ofZ w16 (getD (now (a .samples)) (l .at + 1) (pos 0))) ≡ getD (now (a .samples)) (l .at + 1) (pos 0) = toZ-ofZ (record { sfits = b .b .given }) in (
-      turn (a .rate) (record { remaining = N - (N - a .c .remaining); fraction = a .c .fraction }) (now (a .samples)) (l .pairs) (l .fractions) (a .room) (l .at) (l .fraction) (l .k) (l .inv .0)
+    let x : toZ w16 (ofZ w16 (getD (now (a .samples)) (l .at) (pos 0))) ≡ getD (now (a .samples)) (l .at) (pos 0) = toZ-ofZ
+    (record { sfits = b .before .a .given }) in
+    let y : toZ w16 (ofZ w16 (getD (now (a .samples)) (l .at + 1) (pos 0))) ≡ getD (now (a .samples)) (l .at + 1) (pos 0) = toZ-ofZ
+    (record { sfits = b .b .given }) in (
+      turn (a .rate) (record { remaining = N - (N - a .c .remaining); fraction = a .c .fraction }) (now (a .samples)) (l .pairs)
+          (l .fractions) (a .room) (l .at) (l .fraction) (l .k) (l .inv .0)
           (omega arith) (omega arith) _ _ (n .counted .result) _ x y (n .counted .ensures .0 ∙ s .count)
           (sym (s .kept) ∙ ap (λ (w : Float). at-least-0 (sub binary64 (add binary64 (l .fraction) (a .rate)) w)) (s .is))
           (omega arith),
@@ -147,7 +157,8 @@ returns c =
     let l = c .before .loop in
     let N = length (now (a .samples)) in
     let e : N - (N - a .c .remaining) ≡ a .c .remaining = omega arith in
-    let i = subst (λ (n : ℕ). Loop (a .rate) (record { remaining = n; fraction = a .c .fraction }) (now (a .samples)) (l .pairs) (l .fractions) (a .room) (l .at) (l .fraction) (l .k)) e (l .inv .0) in
+    let i = subst (λ (n : ℕ). Loop (a .rate) (record { remaining = n; fraction = a .c .fraction }) (now (a .samples)) (l .pairs)
+    (l .fractions) (a .room) (l .at) (l .fraction) (l .k)) e (l .inv .0) in
     (record { count-most = i .most; cursor-is = i .is; inside = i .inside }, i .walked)
 
 pub walk-steady-spec : {M : Type 1} → statement M

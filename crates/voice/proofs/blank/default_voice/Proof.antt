@@ -5,7 +5,8 @@ use Rattle.adpcm.specs.declared.History.{History}
 use Rattle.filters.specs.declared.state.Filters.{Filters}
 use Rattle.numbers.proofs.Literals.{zero-32, zero-64, one-64}
 use Rattle.voice.specs.Blank.{places, defaultVoice}
-use Rattle.voice.specs.Set.{set-voice-rate, set-voice-filters, set-voice-gain, set-voice-ramp, set-voice-history, set-voice-queue, set-voice-playing, set-voice-fraction}
+use Rattle.voice.specs.Set.{set-voice-rate, set-voice-filters, set-voice-gain, set-voice-ramp, set-voice-history, set-voice-queue}
+use Rattle.voice.specs.Set.{set-voice-playing, set-voice-fraction}
 use Rattle.voice.specs.declared.record.Entry.{Entry}
 use Rattle.voice.specs.declared.record.Voice.{Voice}
 use Rattle.voice.proofs.blank.default_voice.Statement.{statement}
@@ -32,7 +33,8 @@ with e f h one zero none =
 returns : tie.Need-returns
 unfolding defaultVoice
 returns c =
-    λ j. with (c .before .before .blank-entry .ensures j) (c .before .no-filters .ensures j) (c .blank-history .ensures j) (one-64 j) (zero-64 j) (zero-32 j)
+    λ j. with (c .before .before .blank-entry .ensures j) (c .before .no-filters .ensures j) (c .blank-history .ensures j) (one-64 j)
+    (zero-64 j) (zero-32 j)
 
 pub default-voice-spec : {M : Type 1} → statement M
 default-voice-spec =

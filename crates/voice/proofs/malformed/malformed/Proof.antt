@@ -54,7 +54,8 @@ returns-4 : tie.Need-returns-4
 unfolding malformed
 returns-4 c =
     let n = counted (c .before .before) in
-    sym (or-no _ (n .queued) ∙ or-no _ (n .remaining) ∙ or-no _ (n .decoded) ∙ or-yes _ (sym (c .before .any-too-long .ensures) ∙ c .if4 .taken))
+    sym (or-no _ (n .queued) ∙ or-no _ (n .remaining) ∙ or-no _ (n .decoded)
+    ∙ or-yes _ (sym (c .before .any-too-long .ensures) ∙ c .if4 .taken))
 
 is-rate-requires : tie.Need-is-rate-requires
 is-rate-requires c κs = tt

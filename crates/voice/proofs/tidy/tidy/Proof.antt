@@ -28,7 +28,8 @@ returns : tie.Need-returns
 unfolding tidied
 returns c =
     let r = c .before .before .before .before in
-    (λ j. set-voice-playing (c .tidy-under .ensures j) (set-voice-filters (c .before .before .tidy-filters .ensures j) (r .tidy-ramp .result)))
+    (λ j. set-voice-playing (c .tidy-under .ensures j)
+    (set-voice-filters (c .before .before .tidy-filters .ensures j) (r .tidy-ramp .result)))
     ∙ ap rested (r .tidy-ramp .ensures ∙ ap ramped (r .before .tidy-queue .ensures))
 
 pub tidy-spec : {M : Type 1} → statement M

@@ -17,7 +17,8 @@ blank-history-requires c κs = tt
 returns-2 : tie.Need-returns-2
 unfolding tidyEntry
 returns-2 c =
-    ap (λ (h : History). set-entry-adpcm h (c .before .before .args .e)) (c .blank-history .ensures) ∙ sym (cond-no _ _ (c .before .if1 .left))
+    ap (λ (h : History). set-entry-adpcm h (c .before .before .args .e)) (c .blank-history .ensures)
+    ∙ sym (cond-no _ _ (c .before .if1 .left))
 
 pub tidy-entry-spec : {M : Type 1} → statement M
 tidy-entry-spec = tie.close (tie.spec returns blank-history-requires returns-2)

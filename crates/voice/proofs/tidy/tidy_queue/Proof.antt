@@ -56,7 +56,8 @@ loop-again c =
     let n = s .args .v .queued in
     let old = s .args .v .queue in
     let h : l .i < places = omega arith in
-    filling-more (tidyQueue n old) old (l .q) (l .i) (c .tidy-under .result) blankEntry (same s) (omega (arith, queue-places (s .args .v) (s .good .0))) (l .inv)
+    filling-more (tidyQueue n old) old (l .q) (l .i) (c .tidy-under .result) blankEntry (same s)
+    (omega (arith, queue-places (s .args .v) (s .good .0))) (l .inv)
     (c .tidy-under .ensures
     ∙ ap (λ (e : Entry). tidyUnder (ltb (l .i) n) e) (filling-next (tidyQueue n old) old (l .q) (l .i) blankEntry (same s) (l .inv))
     ∙ sym (queue-at n old (l .i) blankEntry h))
