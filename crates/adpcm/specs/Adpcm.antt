@@ -8,6 +8,7 @@ use lib.ListN.{length, drop}
 use lib.IntN.{ℤ}
 use lib.Signed.{shrZ}
 use Rattle.numbers.specs.Wrap.{wrap32, clamp16}
+use Rattle.adpcm.specs.Sizes.{frameBytes, mostSamples}
 use Rattle.adpcm.specs.Code.{Code, sumOf, framesOf, decodedSamples, decodedHistory}
 use Rattle.adpcm.specs.declared.History.{History}
 use Rattle.adpcm.specs.declared.Decoded.{Decoded}
@@ -22,7 +23,7 @@ sampleOf h c = scaledDown (wrap32 (sumOf h c))
 
 -- number 9: "ADPCM count over 65,536, bytes not ceil(count/14) times 8, or output shorter than count"
 abbrev pub refused : ℕ → ℕ → ℕ → Bool
-refused bytes count places = ltb 65536 count || (not (eqb bytes (framesOf count * 8)) || ltb places count)
+refused bytes count places = ltb mostSamples count || (not (eqb bytes (framesOf count * frameBytes)) || ltb places count)
 
 -- what a decode answers: 9 and the history it was given, or 0 and the history after the last sample made
 abbrev pub decodeAnswer : List ℤ → History → List ℕ → ℕ → List ℤ → Decoded

@@ -1,5 +1,6 @@
-pub mod Code
 pub mod Adpcm
-pub mod Public
 pub mod Agreement
+pub mod Code
 pub mod Nine
+pub mod Public
+pub mod Sizes

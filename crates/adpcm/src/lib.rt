@@ -1,4 +1,7 @@
-// Module 2: ADPCM. Frames of eight bytes, each handed on as a part of the bytes.
+// Module 2, the ADPCM decoder. `decode_adpcm` takes bytes, a count of samples, 16 coefficients, a history and an output, for any values and
+// lengths. It answers 9 and leaves the output where the count is over 65,536, the bytes are not the count's whole frames, or the output is
+// too short; else it fills the first places of the output and gives the last two samples as the new history. Frames of eight bytes are
+// handed on as parts of the bytes, and the part of the output that a frame fills is lent to it.
 ghost use mathlib.Core.Path.{_≡_};
 ghost use mathlib.Core.List.{_++_};
 ghost use Prim.Native.Nat.{min, _*_, _/_, _%_, _^_, _≤_, _<_};
@@ -7,7 +10,15 @@ ghost use lib.IntN.{pos};
 ghost use Rattle.numbers.specs.Within.{Is};
 ghost use Rattle.adpcm.specs.Code.{code, firstNibble, secondNibble, nibbles, codesBy, frameCodes, framesOf, signedNibble};
 ghost use Rattle.adpcm.specs.Code.{sumOf, samplesOf, historyAfter, decodedSamples, decodedHistory};
+ghost use Rattle.adpcm.specs.Sizes.{frameBytes, frameSamples, mostSamples};
 ghost use Rattle.adpcm.specs.Adpcm.{sampleOf, decodeAnswer, decodeOutput};
+
+// A frame has a header and two nibbles a byte, one for each sample.
+const FRAME_BYTES: usize = 8;
+
+const FRAME_SAMPLES: usize = 14;
+
+const MOST_SAMPLES: usize = 65536;
 
 // The last two samples, the newer first, which the next ones follow on from.
 pub struct History {
@@ -69,8 +80,8 @@ fn second_nibble(b: u8) -> u8
 
 // The nibble at an index of a frame's 14.
 fn nibble_at(frame: &[u8], i: usize) -> u8
-    requires { ⌜ length (now frame) ≡ 8 ⌝ }
-    requires { ⌜ i < 14 ⌝ }
+    requires { ⌜ length (now frame) ≡ frameBytes ⌝ }
+    requires { ⌜ i < frameSamples ⌝ }
     ensures { λ r. ⌜ r ≡ getD (nibbles (drop 1 (now (frame .entry)))) i 0 ⌝ }
     ensures { λ r. ⌜ r < 16 ⌝ }
 {
@@ -90,8 +101,8 @@ fn decode_nibbles(
     h: History,
     samples: &mut [i16],
 ) -> History
-    requires { ⌜ length (now frame) ≡ 8 ⌝ }
-    requires { ⌜ length (now samples) ≤ 14 ⌝ }
+    requires { ⌜ length (now frame) ≡ frameBytes ⌝ }
+    requires { ⌜ length (now samples) ≤ frameSamples ⌝ }
     requires { ⌜ exponent < 16 ⌝ }
     ensures samples { λ _. ⌜ now (samples .exit) ≡
         samplesOf sampleOf h (take (length (now (samples .entry))) (codesBy exponent c1 c2 (now (frame .entry)))) ⌝ }
@@ -122,8 +133,8 @@ fn decode_pairs(
     h: History,
     samples: &mut [i16],
 ) -> History
-    requires { ⌜ length (now frame) ≡ 8 ⌝ }
-    requires { ⌜ length (now samples) ≡ 14 ⌝ }
+    requires { ⌜ length (now frame) ≡ frameBytes ⌝ }
+    requires { ⌜ length (now samples) ≡ frameSamples ⌝ }
     requires { ⌜ exponent < 16 ⌝ }
     ensures samples { λ _. ⌜ now (samples .exit) ≡ samplesOf sampleOf h (codesBy exponent c1 c2 (now (frame .entry))) ⌝ }
     ensures history { λ r. ⌜ r ≡ historyAfter sampleOf h (codesBy exponent c1 c2 (now (frame .entry))) ⌝ }
@@ -163,8 +174,8 @@ fn predictor_of(header: u8) -> usize
 
 // Decodes as many samples of a frame as `samples` holds, 14 at most.
 fn decode_frame(frame: &[u8], coefficients: &[i16; 16], h: History, samples: &mut [i16]) -> History
-    requires { ⌜ length (now frame) ≡ 8 ⌝ }
-    requires { ⌜ length (now samples) ≤ 14 ⌝ }
+    requires { ⌜ length (now frame) ≡ frameBytes ⌝ }
+    requires { ⌜ length (now samples) ≤ frameSamples ⌝ }
     ensures samples { λ _. ⌜ now (samples .exit) ≡
         samplesOf sampleOf h (take (length (now (samples .entry))) (frameCodes (now (coefficients .entry)) (now (frame .entry)))) ⌝ }
     ensures history { λ r. ⌜ r ≡
@@ -175,17 +186,21 @@ fn decode_frame(frame: &[u8], coefficients: &[i16; 16], h: History, samples: &mu
     let predictor = predictor_of(header);
     let c1 = coefficients[predictor * 2];
     let c2 = coefficients[predictor * 2 + 1];
-    if samples.len() == 14 {
+    if samples.len() == FRAME_SAMPLES {
         return decode_pairs(frame, exponent, c1, c2, h, samples);
     }
     decode_nibbles(frame, exponent, c1, c2, h, samples)
 }
 
 // How many samples a frame gives where so many are left.
-fn at_most_14(left: usize) -> usize
-    ensures { λ r. ⌜ r ≡ min 14 left ⌝ }
+fn at_most_a_frame(left: usize) -> usize
+    ensures { λ r. ⌜ r ≡ min frameSamples left ⌝ }
 {
-    if left < 14 { left } else { 14 }
+    if left < FRAME_SAMPLES {
+        left
+    } else {
+        FRAME_SAMPLES
+    }
 }
 
 // Decodes all frames into the first places of `samples`.
@@ -196,9 +211,9 @@ fn decode_all(
     h: History,
     samples: &mut [i16],
 ) -> History
-    requires { ⌜ length (now «data») ≡ framesOf count * 8 ⌝ }
+    requires { ⌜ length (now «data») ≡ framesOf count * frameBytes ⌝ }
     requires { ⌜ count ≤ length (now samples) ⌝ }
-    requires { ⌜ count ≤ 65536 ⌝ }
+    requires { ⌜ count ≤ mostSamples ⌝ }
     ensures samples { λ _. ⌜ now (samples .exit) ≡
         decodedSamples sampleOf (now (coefficients .entry)) h (now («data» .entry)) count ++ drop count (now (samples .entry)) ⌝ }
     ensures history { λ r. ⌜ r ≡ decodedHistory sampleOf (now (coefficients .entry)) h (now («data» .entry)) count ⌝ }
@@ -207,8 +222,8 @@ fn decode_all(
     let mut at = 0;
     let mut done = 0;
     while done < count {
-        let end = at + 8;
-        let to = done + at_most_14(count - done);
+        let end = at + FRAME_BYTES;
+        let to = done + at_most_a_frame(count - done);
         last = decode_frame(&data[at..end], coefficients, last, &mut samples[done..to]);
         at = end;
         done = to;
@@ -234,10 +249,10 @@ pub fn decode_adpcm(
     ensures output { λ _. ⌜ now (samples .exit) ≡
         decodeOutput (now (coefficients .entry)) history (now («data» .entry)) count (now (samples .entry)) ⌝ }
 {
-    if count > 65536 {
+    if count > MOST_SAMPLES {
         return Decoded { number: 9, history };
     }
-    if data.len() != (count + 13) / 14 * 8 {
+    if data.len() != (count + 13) / FRAME_SAMPLES * FRAME_BYTES {
         return Decoded { number: 9, history };
     }
     if samples.len() < count {

@@ -1,4 +1,6 @@
-// The seven places of a region, and the whole-call numbers 1, 2 and 3.
+// The seven places of a region, and the numbers 1, 2 and 3. `layout_number` takes the lengths of the two regions and the offsets that a
+// caller lends, for any values of these, and gives the lowest number that applies, or 0. It reads no memory. A call that goes on with 0
+// knows that each place lies in both regions and that no two share a byte (`Sound`, `accepted`).
 use fields::config;
 use fields::mixer_config;
 use fields::status;

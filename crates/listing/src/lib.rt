@@ -1,4 +1,7 @@
-// The decode listing: the samples and the history of an ADPCM decode as two tables of text.
+// The decode listing: the samples and the history of an ADPCM decode as two tables of text. `listing` takes the bytes of an input (header:
+// coefficients, history, count; then the frames) and a buffer for the longest listing. It fills the buffer's start and gives the length;
+// where bytes are missing or left over that is the 9 of a refusal, alone in its column. `list_read` does it for a program that read into a
+// buffer. The bytes go through `input` to the decoder, and its samples through `table` and `text` into columns.
 pub mod input;
 pub mod sizes;
 mod table;

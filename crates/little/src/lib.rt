@@ -1,4 +1,6 @@
-// Numbers in bytes: little-endian ones, and the DSP's 32-bit number with its higher half first.
+// Numbers in lent bytes: little-endian halves and words, signed halves, and the DSP's dsp32, a word with its higher half first. Reading
+// takes bytes and a place and gives the number; writing stores its bytes there and leaves every other byte. Nothing is refused: each
+// function asks that the bytes from the place on lie in the slice, which the caller knows from an accepted layout.
 ghost use mathlib.Core.Path.{_≡_};
 ghost use Prim.Native.Nat.{_+_, _≤_, _<_};
 ghost use lib.ListN.{length};

@@ -1,4 +1,6 @@
-// The window that samples are read from, one lent slice of bytes with the address of its first, and the whole-call number 4.
+// The window that samples are read from: one lent slice of bytes, and the address of its first. `physical` hands back the part of the slice
+// that was asked for, uncopied, or its empty part where some byte is absent; `present` tells an absent part from an empty one. Both take
+// any window, base, address and length. `window_number` gives 4 where the window would end past the last 32-bit address, else 0.
 ghost use mathlib.Core.Path.{_≡_};
 ghost use Prim.Native.Nat.{_-_, _≤_};
 ghost use lib.ListN.{length};

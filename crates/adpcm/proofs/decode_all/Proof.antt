@@ -22,11 +22,11 @@ loop-holds c = (refl, start _ _ _ _ _ (c .before .pre .0))
 add-end : tie.Need-add-end Inv-loop μ-loop
 add-end c = search needs
 
-sub-at-most-14 : tie.Need-sub-at-most-14 Inv-loop μ-loop
-sub-at-most-14 c = search needs
+sub-at-most-a-frame : tie.Need-sub-at-most-a-frame Inv-loop μ-loop
+sub-at-most-a-frame c = search needs
 
-at-most-14-requires : tie.Need-at-most-14-requires Inv-loop μ-loop
-at-most-14-requires c κs = search needs
+at-most-a-frame-requires : tie.Need-at-most-a-frame-requires Inv-loop μ-loop
+at-most-a-frame-requires c κs = search needs
 
 add-to : tie.Need-add-to Inv-loop μ-loop
 add-to c = search needs
@@ -63,7 +63,7 @@ loop-again c =
     let e = c .before .before .before .before .before in
     let l = e .before in
     let a = l .before .before in
-    let n = c .before .before .before .before .at-most-14 in
+    let n = c .before .before .before .before .at-most-a-frame in
     let f = c .before .decode-frame in
     let b = l .loop .at in
     let i = l .loop .done in
@@ -98,8 +98,8 @@ decode-all-spec =
     μ-loop
     loop-holds
     add-end
-    sub-at-most-14
-    at-most-14-requires
+    sub-at-most-a-frame
+    at-most-a-frame-requires
     add-to
     sub-decode-frame
     part-decode-frame-start

@@ -41,8 +41,9 @@ returns-2 c =
     let r = c .before .biquad-value in
     let value = result-read w16 (r .result) (r .ok) ∙ r .ensures ∙ ap (biquadValue k (a .filters .biquad)) (toZ-ofZ (s .fits .x)) in
     let after = c .biquad-after .ensures ∙ (λ i. biquadAfter k (a .filters .biquad) (x i) (value i)) in
+    let f = a .filters in
     (λ i. record {
-      filters = record { «has_simple» = a .filters .«has_simple»; simple = a .filters .simple; «has_biquad» = a .filters .«has_biquad»; biquad = after i };
+      filters = record { «has_simple» = f .«has_simple»; simple = f .simple; «has_biquad» = f .«has_biquad»; biquad = after i };
       value = value i;
     })
     ∙ sym (cond-yes _ _ (on (c .before .before .before)))

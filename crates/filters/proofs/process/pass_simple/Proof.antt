@@ -40,8 +40,9 @@ returns-2 c =
     let r = c .before .simple-value in
     let value = result-read w16 (r .result) (r .ok) ∙ r .ensures ∙ ap (simpleValue k (a .filters .simple)) (toZ-ofZ (s .fits .x)) in
     let after = c .simple-after .ensures ∙ ap (simpleAfter k (a .filters .simple)) value in
+    let f = a .filters in
     (λ i. record {
-      filters = record { «has_simple» = a .filters .«has_simple»; simple = after i; «has_biquad» = a .filters .«has_biquad»; biquad = a .filters .biquad };
+      filters = record { «has_simple» = f .«has_simple»; simple = after i; «has_biquad» = f .«has_biquad»; biquad = f .biquad };
       value = value i;
     })
     ∙ sym (cond-yes _ _ (on (c .before .before .before)))
