@@ -2,7 +2,7 @@
 -- nothing.
 use mathlib.Core.Path.{_≡_, refl, sym, ap, _∙_}
 use mathlib.Core.List.{List, [], _∷_, _++_, append-nil}
-use Prim.Native.Nat.{ℕ, zero, suc, _+_, _≤_, _<_, zero-le}
+use Prim.Native.Nat.{ℕ, zero, suc, _+_, _-_, _≤_, _<_, zero-le}
 use native.Mathlib.Nat.{le-of-suc-le-suc, not-suc-le-zero}
 use native.Mathlib.Numerals.{add-one}
 use native.Mathlib.Omega.{arith}
@@ -35,21 +35,20 @@ module _ {A : Type 0} where
       ∙ (λ j. take-length goal j ++ drop (q j) old) ∙ ap (λ (r : List A). goal ++ r) (drop-length old) ∙ append-nil goal
 
   -- what is not yet stored is as it was, which a turn that reads before it writes needs
+  pub fill-later :
+      (goal old l : List A) (i k : ℕ) (d : A) → l ≡ filled goal old i → i ≤ length goal → i ≤ k → getD l k d ≡ getD old k d
+  fill-later goal old l i k d e h le =
+      let len : length (take i goal) ≡ i = length-take-le i goal h in
+      let there : k ≡ length (take i goal) + (k - i) = omega arith in
+      let back : i + (k - i) ≡ k = omega arith in
+      ap (λ (r : List A). getD r k d) e
+      ∙ ap (λ (n : ℕ). getD (filled goal old i) n d) there
+      ∙ getD-append-add (take i goal) (drop i old) (k - i) d
+      ∙ getD-drop i old (k - i) d
+      ∙ ap (λ (n : ℕ). getD old n d) back
+
   pub fill-next : (goal old l : List A) (i : ℕ) (d : A) → l ≡ filled goal old i → i ≤ length goal → getD l i d ≡ getD old i d
-  fill-next goal old l i d e h =
-      ap (λ (r : List A). getD r i d) e
-      ∙ ap (λ (n : ℕ). getD (filled goal old i) n d) (sym (len ∙ add0))
-      ∙ getD-append-add (take i goal) (drop i old) 0 d
-      ∙ getD-drop i old 0 d ∙ ap (λ (n : ℕ). getD old n d) plus0
-    where
-      len : length (take i goal) + 0 ≡ i + 0
-      len = ap (λ (n : ℕ). n + 0) (length-take-le i goal h)
-
-      add0 : i + 0 ≡ i
-      add0 = omega arith
-
-      plus0 : i + 0 ≡ i
-      plus0 = omega arith
+  fill-next goal old l i d e h = fill-later goal old l i i d e h (omega arith)
 
 -- The invariant of such a loop: `old` is the list where the loop begins, `now` at its head, and `goal` what is wanted of it.
 pub record Filling {A : Type 0} (goal old now : List A) (i : ℕ) : Type 0 where

@@ -20,7 +20,7 @@ fn over(count: u32, lane: usize) -> bool
     count as usize > lane
 }
 
-fn is_adpcm(format: Format) -> bool
+pub fn is_adpcm(format: Format) -> bool
     ensures { λ r. ⌜ r ≡ isAdpcm format ⌝ }
 {
     match format {

@@ -1,0 +1,3 @@
+pub mod Played
+pub mod Removal
+pub mod Search
