@@ -80,11 +80,11 @@ pub fn heard_at(window: &[u8], base: u32, lane: &[i16], t: Track, place: usize) 
     requires { ⌜ t .decoded ≤ length (now lane) ⌝ }
     ensures { λ r. ⌜ r ≡ heardAt (now (window .entry)) base (now (lane .entry)) t place ⌝ }
 {
-    if !t.has_playing {
-        return silent();
+    if t.has_playing {
+        let e = t.playing;
+        return sample_at(window, base, lane, t.decoded, e, within(place, e.length));
     }
-    let e = t.playing;
-    sample_at(window, base, lane, t.decoded, e, within(place, e.length))
+    silent()
 }
 
 fn between(a: Sample, b: Sample, fraction: f64) -> Sample
