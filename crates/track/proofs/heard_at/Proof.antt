@@ -18,7 +18,7 @@ returns : tie.Need-returns
 unfolding heardAt
 returns c =
     let w = c .before in
-    let s = w .before .before .before .before .before in
+    let s = w .before .before .before .before in
     let t = s .args .t in
     c .sample-at .ensures
     ∙ ap (sampleAt (now (s .args .window)) (s .args .base) (now (s .args .lane)) (t .decoded) (t .playing)) (w .within .ensures)
