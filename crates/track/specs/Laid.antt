@@ -1,6 +1,7 @@
 -- What only the contracts of inner functions cite: a frame into which samples are stored one after the other, while an entry plays on.
 -- Assumes nothing: these are definitions.
 use mathlib.Core.List.{List}
+use mathlib.Core.Logic.{_⊎_}
 use mathlib.Core.Path.{_≡_}
 use Prim.Native.Nat.{ℕ, zero, suc, _+_, _*_, _≤_, _<_}
 use lib.IntN.{ℤ}
@@ -27,3 +28,11 @@ pub record Onward (t : Track) (c : Cursor) (room : ℕ) (r : Reached) : Type 0 w
   pub count-most : r .count ≤ room
   pub cursor-is : r .cursor ≡ after (t .rate) (r .count) c
   pub inside : (j : ℕ) → j < r .count → 0 < after (t .rate) (suc j) c .remaining
+
+-- How far an entry was played: at least one sample, and on until there is no room or nothing remains.
+pub record Turned (t : Track) (c : Cursor) (room : ℕ) (r : Reached) : Type 0 where
+  pub some : 0 < r .count
+  pub count-most : r .count ≤ room
+  pub cursor-is : r .cursor ≡ after (t .rate) (r .count) c
+  pub inside : (j : ℕ) → suc j < r .count → 0 < after (t .rate) (suc j) c .remaining
+  pub ended : (r .count ≡ room) ⊎ (r .cursor .remaining ≡ 0)

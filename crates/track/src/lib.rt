@@ -3,10 +3,13 @@
 // other than 0, the one between it and the next. Nothing is refused; what remains must be no more than the record's length, and the lane must
 // hold what was decoded.
 ghost use mathlib.Core.Path.{_≡_};
-ghost use Prim.Native.Nat.{_≤_, _-_, min};
+ghost use Prim.Native.Nat.{_≤_, _<_, _-_, min};
 ghost use lib.ListN.{length};
 ghost use Rattle.track.specs.Track.{isPlain, trackOf, cursorOf, betweenSamples, heardAt, soundOf};
+ghost use Rattle.track.specs.Laid.{put};
+ghost use Rattle.numbers.specs.Sizes.{«FRAME_SAMPLES», FRAME};
 use mixing::interpolate::interpolate;
+use numbers::sizes::FRAME;
 use samples::Sample;
 use samples::sample_at;
 use samples::silent;
@@ -112,4 +115,16 @@ pub fn sound(window: &[u8], base: u32, lane: &[i16], t: Track, c: Cursor) -> Sam
     }
     let second = heard_at(window, base, lane, t, place + 1);
     between(first, second, c.fraction)
+}
+
+// Puts a sample at a place of a frame.
+pub fn put(frame: &mut [i16; FRAME], k: usize, s: Sample)
+    requires { ⌜ k < «FRAME_SAMPLES» ⌝ }
+    requires { ⌜ length (now frame) ≡ FRAME ⌝ }
+    ensures { λ _. ⌜ now (frame .exit) ≡ put (now (frame .entry)) k s ⌝ }
+{
+    let left = s.left;
+    let right = s.right;
+    frame[k * 2] = left;
+    frame[k * 2 + 1] = right;
 }

@@ -1,0 +1,1 @@
+// What a voice plays in one frame.
