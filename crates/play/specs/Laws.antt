@@ -18,9 +18,9 @@ module _ (window : List ℕ) (base : ℕ) (v : Voice) (lane : List ℤ) where
   -- where a voice is said to be: "in a frame that plays, the status position is length less remaining at its start, or the start of the last
   -- entry dequeued in it; a silent dequeue gives that entry's start, switching off gives 0". The last entry dequeued is the one that plays
   pub record Positioned : Type 0 where
-    pub plays : isSilent window base v ≡ false → frame .dequeues ≡ 0 → frame .voice .position ≡ v .length - v .remaining
+    pub plays : isSilent v ≡ false → frame .dequeues ≡ 0 → frame .voice .position ≡ v .length - v .remaining
     pub dequeues : 0 < frame .dequeues → frame .voice .position ≡ startOf (frame .voice .playing)
-    pub off : isSilent window base v ≡ true → frame .dequeues ≡ 0 → frame .voice .position ≡ 0
+    pub off : isSilent v ≡ true → frame .dequeues ≡ 0 → frame .voice .position ≡ 0
 
 -- "at most 160" entries are dequeued in a frame
 abbrev pub AtMost160 : Type 0

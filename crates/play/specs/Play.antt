@@ -42,6 +42,39 @@ pub record Frame : Type 0 where
   pub produced : ℕ
   pub dequeues : ℕ
 
+-- ---- how a frame begins and ends
+
+-- "It follows on when the last frame it played ended exactly as its entry did and an entry is queued"
+unfoldable pub followsOn : Voice → Bool
+followsOn v = v .«ran_out_at_frame_end» && not (eqb (v .queued) 0)
+
+-- "A voice with nothing remaining and not following on spends a silent frame dequeuing, or switches off"
+abbrev pub isSilent : Voice → Bool
+isSilent v = eqb (v .remaining) 0 && not (followsOn v)
+
+-- a record as its frame begins: nothing is produced yet, and that the last frame's entry ended with it is known no more
+unfoldable pub opened : Voice → Voice
+opened v = set-voice-frame (replicate FRAME (pos 0)) (set-voice-ran-out-at-frame-end false v)
+
+-- a voice at the start of a frame that plays: its position is what was played of the entry
+abbrev pub started : Voice → List ℤ → Midst
+started v lane = record { voice = set-voice-position (v .length - v .remaining) v; lane = lane; samples = []; dequeues = 0 }
+
+-- "switches off": the entry that ended is reported as the last one, and none as the current
+unfoldable pub switchedOff : Voice → Voice
+switchedOff v =
+    set-voice-position 0
+    (set-voice-current-buffer-id 0
+    (set-voice-last-buffer-id (v .«current_buffer_id») (set-voice-buffer-update true (set-voice-enabled false v))))
+
+-- the record as the samples of a frame leave it: with them, and whether the frame "ended exactly as its entry did"
+unfoldable pub ended : Midst → Voice
+ended m =
+    set-voice-frame (frameOf (m .samples))
+    (set-voice-ran-out-at-frame-end (eqb (m .voice .remaining) 0 && eqb (length (m .samples)) «FRAME_SAMPLES») (m .voice))
+
+-- ---- a frame, a sample at a time
+
 module _ (window : List ℕ) (base : ℕ) where
   -- one sample of the entry at hand, which then has so much less remaining as a step takes
   unfoldable pub sounded : Midst → Midst
@@ -73,21 +106,6 @@ module _ (window : List ℕ) (base : ℕ) where
 
   -- ---- a frame
 
-  -- "It follows on when the last frame it played ended exactly as its entry did and an entry is queued"
-  unfoldable pub followsOn : Voice → Bool
-  followsOn v = v .«ran_out_at_frame_end» && not (eqb (v .queued) 0)
-
-  -- a record as its frame begins: nothing is produced yet, and that the last frame's entry ended with it is known no more
-  unfoldable pub opened : Voice → Voice
-  opened v = set-voice-frame (replicate FRAME (pos 0)) (set-voice-ran-out-at-frame-end false v)
-
-  -- "switches off": the entry that ended is reported as the last one, and none as the current
-  unfoldable pub switchedOff : Voice → Voice
-  switchedOff v =
-      set-voice-position 0
-      (set-voice-current-buffer-id 0
-      (set-voice-last-buffer-id (v .«current_buffer_id») (set-voice-buffer-update true (set-voice-enabled false v))))
-
   -- "spends a silent frame dequeuing, or switches off"
   unfoldable pub silentFrame : Voice → List ℤ → Frame
   silentFrame v lane =
@@ -99,24 +117,11 @@ module _ (window : List ℕ) (base : ℕ) where
         dequeues = cond (d .found) 1 0;
       }
 
-  -- a voice at the start of a frame that plays: its position is what was played of the entry
-  abbrev pub started : Voice → List ℤ → Midst
-  started v lane = record { voice = set-voice-position (v .length - v .remaining) v; lane = lane; samples = []; dequeues = 0 }
-
-  -- the record as the samples of a frame leave it: with them, and whether the frame "ended exactly as its entry did"
-  unfoldable pub ended : Midst → Voice
-  ended m =
-      set-voice-frame (frameOf (m .samples))
-      (set-voice-ran-out-at-frame-end (eqb (m .voice .remaining) 0 && eqb (length (m .samples)) «FRAME_SAMPLES») (m .voice))
-
   unfoldable pub playingFrame : Voice → List ℤ → Frame
   playingFrame v lane =
       let m = onward «FRAME_SAMPLES» (started v lane) in
       record { voice = ended m; lane = m .lane; produced = length (m .samples); dequeues = m .dequeues }
 
   -- "A voice with nothing remaining and not following on spends a silent frame dequeuing, or switches off"; any other plays
-  abbrev pub isSilent : Voice → Bool
-  isSilent v = eqb (v .remaining) 0 && not (followsOn v)
-
   unfoldable pub played : Voice → List ℤ → Frame
   played v lane = cond (isSilent v) (silentFrame (opened v) lane) (playingFrame (opened v) lane)

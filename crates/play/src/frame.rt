@@ -1,1 +1,128 @@
 // What a voice plays in one frame.
+use crate::entry::play_entry;
+use dequeue::Dequeued;
+use dequeue::dequeue;
+use numbers::sizes::FRAME;
+use numbers::sizes::FRAME_SAMPLES;
+use steps::step::Cursor;
+use track::cursor_of;
+use track::track_of;
+use voice::record::Voice;
+ghost use mathlib.Core.Path.{_≡_};
+ghost use Prim.Native.Nat.{_≤_};
+ghost use lib.IntN.{pos};
+ghost use lib.ListN.{length, replicate};
+ghost use Rattle.numbers.specs.Sizes.{«FRAME_SAMPLES», FRAME};
+ghost use Rattle.adpcm.specs.Sizes.{mostSamples};
+ghost use Rattle.voice.specs.Malformed.{WellFormed};
+ghost use Rattle.voice.specs.Set.{set-voice-position};
+ghost use Rattle.play.specs.Play.{at, followsOn, opened, switchedOff, silentFrame, started, onward, ended, playingFrame, played, frameOf};
+ghost use Rattle.play.specs.Inner.{readied, readiedLane, entering};
+
+// What a frame comes to: the record, and how many samples were produced.
+pub struct Played {
+    pub voice: Voice,
+    pub produced: usize,
+}
+
+// The record as its frame begins.
+fn open(v: Voice) -> Voice
+    ensures { λ r. ⌜ r ≡ opened v ⌝ }
+{
+    let mut w = v;
+    w.ran_out_at_frame_end = false;
+    w.frame = [0; FRAME];
+    w
+}
+
+fn switch_off(v: Voice) -> Voice
+    ensures { λ r. ⌜ r ≡ switchedOff v ⌝ }
+{
+    let mut w = v;
+    w.enabled = false;
+    w.buffer_update = true;
+    w.last_buffer_id = v.current_buffer_id;
+    w.current_buffer_id = 0;
+    w.position = 0;
+    w
+}
+
+// A frame spent on a dequeue, or the voice switched off.
+fn be_silent(v: Voice, window: &[u8], base: u32, lane: &mut [i16]) -> Voice
+    requires { ⌜ WellFormed (length (now lane)) v ⌝ }
+    requires { ⌜ length (now lane) ≤ mostSamples ⌝ }
+    ensures record { λ r. ⌜ r ≡ silentFrame (now (window .entry)) base v (now (lane .entry)) .voice ⌝ }
+    ensures lane { λ _. ⌜ now (lane .exit) ≡ silentFrame (now (window .entry)) base v (now (lane .entry)) .lane ⌝ }
+{
+    let d = dequeue(v, window, base, lane);
+    if d.found {
+        let w = d.voice;
+        return w;
+    }
+    switch_off(v)
+}
+
+// The record with something to play: where nothing remains, the next entry is dequeued.
+fn ready(v: Voice, window: &[u8], base: u32, lane: &mut [i16]) -> Dequeued
+    requires { ⌜ WellFormed (length (now lane)) v ⌝ }
+    requires { ⌜ length (now lane) ≤ mostSamples ⌝ }
+    ensures record { λ r. ⌜ r ≡ readied (now (window .entry)) base v ⌝ }
+    ensures lane { λ _. ⌜ now (lane .exit) ≡ readiedLane (now (window .entry)) base v (now (lane .entry)) ⌝ }
+{
+    if v.remaining == 0 {
+        return dequeue(v, window, base, lane);
+    }
+    Dequeued {
+        voice: v,
+        found: true,
+    }
+}
+
+// The record with playing at another place.
+fn move_to(v: Voice, c: Cursor) -> Voice
+    ensures { λ r. ⌜ r ≡ at c v ⌝ }
+{
+    let mut w = v;
+    w.remaining = c.remaining;
+    w.fraction = c.fraction;
+    w
+}
+
+// Plays entries one after the other, until the frame is full or nothing is queued.
+fn play_entries(
+    v: Voice,
+    window: &[u8],
+    base: u32,
+    lane: &mut [i16],
+    frame: &mut [i16; FRAME],
+) -> Played
+    requires { ⌜ WellFormed (length (now lane)) v ⌝ }
+    requires { ⌜ length (now lane) ≤ mostSamples ⌝ }
+    requires { ⌜ now frame ≡ replicate FRAME (pos 0) ⌝ }
+    ensures record { λ r. ⌜ r .voice ≡ onward (now (window .entry)) base «FRAME_SAMPLES» (entering v (now (lane .entry))) .voice ⌝ }
+    ensures lane { λ _. ⌜ now (lane .exit) ≡ onward (now (window .entry)) base «FRAME_SAMPLES» (entering v (now (lane .entry))) .lane ⌝ }
+    ensures frame { λ _. ⌜ now (frame .exit) ≡
+        frameOf (onward (now (window .entry)) base «FRAME_SAMPLES» (entering v (now (lane .entry))) .samples) ⌝ }
+    ensures produced { λ r. ⌜ r .produced ≡
+        length (onward (now (window .entry)) base «FRAME_SAMPLES» (entering v (now (lane .entry))) .samples) ⌝ }
+{
+    let mut w = v;
+    let mut output = 0;
+    while output < FRAME_SAMPLES {
+        let d = ready(w, window, base, lane);
+        if !d.found {
+            break;
+        }
+        let x = d.voice;
+        let t = track_of(x);
+        let c = cursor_of(x);
+        let r = play_entry(window, base, lane, t, c, frame, output);
+        let reached = r.cursor;
+        w = move_to(x, reached);
+        output += r.count;
+    }
+    Played {
+        voice: w,
+        produced: output,
+    }
+}

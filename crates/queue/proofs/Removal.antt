@@ -5,7 +5,7 @@ use mathlib.Core.Path.{_≡_, refl, sym, _∙_, ap}
 use mathlib.Core.List.{List, [], _∷_, _++_}
 use native.Mathlib.Omega.{arith}
 use lib.ListN.{length, getD, take, drop, length-append, length-take, length-drop, take-append-drop, List·getD-append}
-use lib.Seq.{length-take-le, getD-append-add, getD-drop, getD-at, take-at, take-append-add, take-append-le, take-take, take-add, drop-at}
+use lib.Seq.{length-take-le, getD-take, getD-append-add, getD-drop, getD-at, take-at, take-append-add, take-append-le, take-take, take-add, drop-at}
 use Rattle.lists.proofs.Fill.{filled}
 use Rattle.voice.specs.Blank.{blankEntry}
 use Rattle.voice.specs.Malformed.{queuedIn}
@@ -24,6 +24,14 @@ module _ (queue : List Entry) (place : ℕ) (inside : place < length queue) wher
   without-start =
       let len : length (take place queue) ≡ place = length-take-le place queue (omega arith) in
       sym (ap (λ (l : List Entry). l ++ drop place queue) (take-at (take place queue) _ place len) ∙ take-append-drop place queue)
+
+  -- before the place nothing changes
+  pub without-before : (j : ℕ) (d : Entry) → j < place → getD (without place queue) j d ≡ getD queue j d
+  unfolding without
+  without-before j d lt =
+      let len : length (take place queue) ≡ place = length-take-le place queue (omega arith) in
+      let here : j < length (take place queue) = omega arith in
+      List·getD-append (take place queue) (drop (suc place) queue ++ (blankEntry ∷ [])) d j here ∙ getD-take place queue j d lt
 
   -- from the place on each is the next
   pub without-next : (j : ℕ) (d : Entry) → place ≤ j → j + 1 < length queue → getD (without place queue) j d ≡ getD queue (j + 1) d

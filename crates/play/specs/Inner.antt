@@ -1,0 +1,21 @@
+-- What only the contracts of inner functions cite: a record with something to play. Assumes nothing: these are definitions.
+use mathlib.Core.Bool.{true, cond}
+use mathlib.Core.List.{List, []}
+use Prim.Native.Nat.{ℕ}
+use lib.Dec.{eqb}
+use lib.IntN.{ℤ}
+use Rattle.voice.specs.declared.record.Voice.{Voice}
+use Rattle.dequeue.specs.Dequeue.{dequeued, dequeuedLane}
+use Rattle.dequeue.specs.declared.Dequeued.{Dequeued}
+use Rattle.play.specs.Play.{Midst}
+
+-- as it is, or with the next entry dequeued where nothing remains
+unfoldable pub readied : List ℕ → ℕ → Voice → Dequeued
+readied window base v = cond (eqb (v .remaining) 0) (dequeued window base v) (record { voice = v; found = true })
+
+unfoldable pub readiedLane : List ℕ → ℕ → Voice → List ℤ → List ℤ
+readiedLane window base v lane = cond (eqb (v .remaining) 0) (dequeuedLane window base v lane) lane
+
+-- a voice before the first sample of a frame
+abbrev pub entering : Voice → List ℤ → Midst
+entering v lane = record { voice = v; lane = lane; samples = []; dequeues = 0 }
