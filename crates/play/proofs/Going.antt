@@ -28,10 +28,23 @@ use Rattle.dequeue.proofs.Keeps.{dequeued-formed, dequeued-places, dequeued-lan
 use Rattle.track.specs.Track.{trackOf, cursorOf}
 use Rattle.track.specs.Laid.{laid, Turned}
 use Rattle.track.proofs.Onward.{after-less, after-suc}
-use Rattle.play.specs.Play.{Midst, at, frameOf, sounded, begunNext, next, onward}
+use Rattle.play.specs.Play.{Midst, at, frameOf, opened, sounded, begunNext, next, onward}
 use Rattle.play.specs.Inner.{readied, readiedLane}
 use Rattle.play.proofs.Laying.{frame-none, heard, heard-long, laid-frame}
 use Rattle.play.proofs.Onwards.{next-plays, next-begins, next-still, onward-none, onward-still, onward-add, along, onward-turned}
+
+-- a record is as well-formed when its frame begins
+pub opened-formed : (L : ℕ) (v : Voice) → WellFormed L v → WellFormed L (opened v)
+unfolding opened
+opened-formed L v w = record {
+  queued = w .queued;
+  remaining = w .remaining;
+  decoded = w .decoded;
+  entries = w .entries;
+  rate = w .rate;
+  fraction = w .fraction;
+  filters = w .filters;
+}
 
 module _ (window : List ℕ) (base : ℕ) where
   -- ---- with nothing queued, a dequeue changes nothing

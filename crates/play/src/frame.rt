@@ -15,9 +15,8 @@ ghost use lib.ListN.{length, replicate};
 ghost use Rattle.numbers.specs.Sizes.{«FRAME_SAMPLES», FRAME};
 ghost use Rattle.adpcm.specs.Sizes.{mostSamples};
 ghost use Rattle.voice.specs.Malformed.{WellFormed};
-ghost use Rattle.voice.specs.Set.{set-voice-position};
-ghost use Rattle.play.specs.Play.{at, followsOn, opened, switchedOff, silentFrame, started, onward, ended, playingFrame, played, frameOf};
-ghost use Rattle.play.specs.Inner.{readied, readiedLane, entering};
+ghost use Rattle.play.specs.Play.{frameOf, at, isSilent, opened, switchedOff, onward, silentFrame, playingFrame, played};
+ghost use Rattle.play.specs.Inner.{readied, readiedLane, entering, closed};
 
 // What a frame comes to: the record, and how many samples were produced.
 pub struct Played {
@@ -125,4 +124,63 @@ fn play_entries(
         voice: w,
         produced: output,
     }
+}
+
+// The record with what a frame that played left.
+fn close(v: Voice, frame: [i16; FRAME], produced: usize) -> Voice
+    ensures { λ r. ⌜ r ≡ closed frame produced v ⌝ }
+{
+    let mut w = v;
+    let ran_out = v.remaining == 0;
+    let full = produced == FRAME_SAMPLES;
+    w.ran_out_at_frame_end = ran_out & full;
+    w.frame = frame;
+    w
+}
+
+// A frame that plays.
+fn play(v: Voice, window: &[u8], base: u32, lane: &mut [i16]) -> Played
+    requires { ⌜ WellFormed (length (now lane)) v ⌝ }
+    requires { ⌜ length (now lane) ≤ mostSamples ⌝ }
+    ensures record { λ r. ⌜ r .voice ≡ playingFrame (now (window .entry)) base v (now (lane .entry)) .voice ⌝ }
+    ensures lane { λ _. ⌜ now (lane .exit) ≡ playingFrame (now (window .entry)) base v (now (lane .entry)) .lane ⌝ }
+    ensures produced { λ r. ⌜ r .produced ≡ playingFrame (now (window .entry)) base v (now (lane .entry)) .produced ⌝ }
+{
+    let mut w = v;
+    w.position = v.length - v.remaining;
+    let mut frame = [0i16; FRAME];
+    let p = play_entries(w, window, base, lane, &mut frame);
+    let x = p.voice;
+    Played {
+        voice: close(x, frame, p.produced),
+        produced: p.produced,
+    }
+}
+
+// Whether the voice spends the frame silent: nothing remains, and it does not follow on.
+fn is_silent(v: Voice) -> bool
+    ensures { λ r. ⌜ r ≡ isSilent v ⌝ }
+{
+    let spent = v.remaining == 0;
+    let queued = v.queued != 0;
+    let follows_on = v.ran_out_at_frame_end & queued;
+    spent & !follows_on
+}
+
+// Plays one frame.
+pub fn play_frame(v: Voice, window: &[u8], base: u32, lane: &mut [i16]) -> Played
+    requires { ⌜ WellFormed (length (now lane)) v ⌝ }
+    requires { ⌜ length (now lane) ≤ mostSamples ⌝ }
+    ensures record { λ r. ⌜ r .voice ≡ played (now (window .entry)) base v (now (lane .entry)) .voice ⌝ }
+    ensures lane { λ _. ⌜ now (lane .exit) ≡ played (now (window .entry)) base v (now (lane .entry)) .lane ⌝ }
+    ensures produced { λ r. ⌜ r .produced ≡ played (now (window .entry)) base v (now (lane .entry)) .produced ⌝ }
+{
+    let w = open(v);
+    if is_silent(v) {
+        return Played {
+            voice: be_silent(w, window, base, lane),
+            produced: 0,
+        };
+    }
+    play(w, window, base, lane)
 }
