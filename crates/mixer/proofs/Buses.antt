@@ -2,7 +2,7 @@
 use mathlib.Core.Path.{_≡_}
 use Prim.Native.Nat.{ℕ, _+_, _*_}
 use native.Mathlib.Omega.{arith}
-use Rattle.mixer.specs.Sizes.{auxBytes}
+use Rattle.mix_bytes.specs.Sizes.{auxBytes}
 
 pub zeroth : (n : ℕ) → n ≡ n + 0 * auxBytes
 zeroth n = omega arith

@@ -13,7 +13,7 @@ use Rattle.layout.specs.Exactly.{Exactly}
 use Rattle.layout.specs.Places.{regionMost, placesOf, inside, apart, layoutNumber}
 use Rattle.layout.specs.declared.Layout.{Layout}
 use Rattle.layout.proofs.Places as places
-use Rattle.mixer.specs.declared.state.Mixer.{Mixer}
+use Rattle.mixer_state.specs.declared.Mixer.{Mixer}
 use Rattle.numbers.specs.Sizes.{MIXES}
 use Rattle.mixer.specs.Tick.{Outcome, numberOf, accepted, refused, ticked}
 use Rattle.mixer.specs.Exactly.{Gives, NoneOfThree, ExactlyIf, RefusedLeavesAll}

@@ -11,7 +11,7 @@ use Rattle.lists.proofs.Bools.{cond-yes, cond-no, not-yes, not-no}
 use Rattle.layout.specs.Places.{layoutNumber}
 use Rattle.layout.specs.declared.Layout.{Layout}
 use Rattle.layout.proofs.Places as places
-use Rattle.mixer.specs.declared.state.Mixer.{Mixer}
+use Rattle.mixer_state.specs.declared.Mixer.{Mixer}
 use Rattle.numbers.specs.Sizes.{MIXES}
 use Rattle.mixer.specs.Tick.{Roomy, numberOf, Outcome, accepted, refused, ticked}
 

@@ -6,16 +6,15 @@ use lib.Dec.{eqb, ltb}
 use lib.IntN.{ℤ, pos}
 use lib.ListN.{length, replicate}
 use Rattle.lists.specs.Splice.{part, splice}
-use Rattle.little.specs.Little.{at32}
 use Rattle.layout.specs.Places.{layoutNumber}
 use Rattle.layout.specs.declared.Layout.{Layout}
-use Rattle.numbers.specs.Sizes.{FRAME, MIXES}
-use Rattle.mixer.specs.Sizes.{configurationBytes, finalBytes, auxBytes, intermediateBytes}
-use Rattle.mixer.specs.State.{auxOn}
-use Rattle.mixer.specs.Configuration.{configured}
-use Rattle.mixer.specs.Mixes.{mixOf, wordsIn, wordBytes, sampleBytes}
-use Rattle.mixer.specs.Downmix.{downmixed}
-use Rattle.mixer.specs.declared.state.Mixer.{Mixer}
+use Rattle.numbers.specs.Sizes.{FRAME, MIX, MIXES}
+use Rattle.mix_bytes.specs.Sizes.{finalBytes, auxBytes, intermediateBytes}
+use Rattle.mixer_state.specs.State.{auxOn}
+use Rattle.mixer_state.specs.Configuration.{configurationBytes, configured, cleared}
+use Rattle.mix_bytes.specs.Mixes.{wordsIn, wordBytes, sampleBytes}
+use Rattle.downmix.specs.Downmix.{downmixed}
+use Rattle.mixer_state.specs.declared.Mixer.{Mixer}
 use Rattle.mixer.specs.declared.tick.Mixed.{Mixed}
 
 -- "The lowest number that applies is returned": 1, 2 and 3 of the layout, 6 where the mixes are not 1,920 numbers, 8 where the number of
@@ -24,13 +23,13 @@ abbrev pub numberOf : ℕ → ℕ → Layout → ℕ → ℕ → ℕ
 numberOf first second l mixes which =
     cond (eqb (layoutNumber first second l) 0) (cond (not (eqb mixes MIXES)) 6 (cond (ltb 1 which) 8 0)) (layoutNumber first second l)
 
+-- mix k of the three
+abbrev pub mixOf : ℕ → List ℤ → List ℤ
+mixOf k mixes = part (k * MIX) MIX mixes
+
 -- 160 pairs of silence
 abbrev pub silence : List ℤ
 silence = replicate FRAME (pos 0)
-
--- a region after its configuration at a place was read, which begins with the dirty word: as with a voice's, "The dirty word is then 0"
-abbrev pub cleared : ℕ → List ℕ → List ℕ
-cleared at region = cond (eqb (at32 region at) 0) region (splice region at (replicate 4 0))
 
 -- the places that the mixer uses lie within regions of so many bytes
 pub record Roomy (l : Layout) (n : ℕ) : Type 0 where

@@ -1,11 +1,10 @@
 // The mixer's call on lent memory.
-use crate::configuration::parse_config;
-use crate::downmix::downmix;
-use crate::mixes;
-use crate::sizes::AUX_BYTES;
-use crate::state::Mixer;
 use fields::mixer_config::CONFIG_SIZE;
 use layout::Layout;
+use mix_bytes::sizes::AUX_BYTES;
+use mixer_state::Mixer;
+use mixer_state::configuration::clear_dirty;
+use mixer_state::configuration::parse_config;
 use numbers::sizes::FRAME;
 use numbers::sizes::MIX;
 use numbers::sizes::MIXES;
@@ -13,8 +12,8 @@ ghost use mathlib.Core.Path.{_≡_};
 ghost use Prim.Native.Nat.{_+_, _≤_};
 ghost use lib.ListN.{length};
 ghost use Rattle.numbers.specs.Sizes.{FRAME, MIXES};
-ghost use Rattle.mixer.specs.Sizes.{configurationBytes, intermediateBytes};
-ghost use Rattle.mixer.specs.Tick.{Roomy, cleared, frameOf, outOf, served, left, refusal, ticked};
+ghost use Rattle.mix_bytes.specs.Sizes.{intermediateBytes};
+ghost use Rattle.mixer.specs.Tick.{Roomy, frameOf, outOf, served, left, refusal, ticked};
 
 // Where mixes 1 and 2 of the three begin.
 const MIX_1: usize = MIX;
@@ -30,7 +29,8 @@ pub struct Mixed {
 
 // The frame that a state makes of the mixes given and those in the region that is read.
 fn frame_of(l: Layout, state: Mixer, read: &[u8], given: &[i32]) -> [i16; FRAME]
-    requires { ⌜ (l .«intermediate_samples» + intermediateBytes ≤ length (now read)) × (length (now given) ≡ MIXES) ⌝ }
+    requires { ⌜ l .«intermediate_samples» + intermediateBytes ≤ length (now read) ⌝ }
+    requires { ⌜ length (now given) ≡ MIXES ⌝ }
     ensures { λ r. ⌜ r ≡ frameOf l state (now (read .entry)) (now (given .entry)) ⌝ }
 {
     let aux = state.aux;
@@ -38,51 +38,45 @@ fn frame_of(l: Layout, state: Mixer, read: &[u8], given: &[i32]) -> [i16; FRAME]
     let middle = start + AUX_BYTES;
     let end = middle + AUX_BYTES;
     let mut first = [0i32; MIX];
-    mixes::hear(
+    mix_bytes::hear(
         aux[0],
         &read[start..middle],
         &given[MIX_1..MIX_2],
         &mut first,
     );
     let mut second = [0i32; MIX];
-    mixes::hear(
+    mix_bytes::hear(
         aux[1],
         &read[middle..end],
         &given[MIX_2..MIXES],
         &mut second,
     );
     let mut frame = [0i16; FRAME];
-    downmix(&mut frame, &given[0..MIX], state, 0);
-    downmix(&mut frame, &first, state, 1);
-    downmix(&mut frame, &second, state, 2);
+    downmix::downmix(&mut frame, &given[0..MIX], state, 0);
+    downmix::downmix(&mut frame, &first, state, 1);
+    downmix::downmix(&mut frame, &second, state, 2);
     frame
 }
 
 // Writes the mixes that go to the title, and the final samples.
 fn write_out(l: Layout, state: Mixer, given: &[i32], frame: &[i16], write: &mut [u8])
-    requires { ⌜ Roomy l (length (now write)) × ((length (now given) ≡ MIXES) × (length (now frame) ≡ FRAME)) ⌝ }
+    requires { ⌜ Roomy l (length (now write)) ⌝ }
+    requires { ⌜ length (now given) ≡ MIXES ⌝ }
+    requires { ⌜ length (now frame) ≡ FRAME ⌝ }
     ensures { λ _. ⌜ now (write .exit) ≡ outOf l state (now (given .entry)) (now (frame .entry)) (now (write .entry)) ⌝ }
 {
     let aux = state.aux;
     let start = l.intermediate_samples as usize;
-    mixes::send(aux[0], &given[MIX_1..MIX_2], write, start);
-    mixes::send(aux[1], &given[MIX_2..MIXES], write, start + AUX_BYTES);
-    mixes::put_frame(frame, write, l.final_samples as usize);
-}
-
-// Clears the dirty word of the configuration at a place, where it is not 0.
-fn clear_dirty(read: &mut [u8], at: usize)
-    requires { ⌜ at + configurationBytes ≤ length (now read) ⌝ }
-    ensures { λ _. ⌜ now (read .exit) ≡ cleared at (now (read .entry)) ⌝ }
-{
-    if little::read32(read, at) != 0 {
-        little::write32(read, at, 0);
-    }
+    mix_bytes::send(aux[0], &given[MIX_1..MIX_2], write, start);
+    mix_bytes::send(aux[1], &given[MIX_2..MIXES], write, start + AUX_BYTES);
+    mix_bytes::put_frame(frame, write, l.final_samples as usize);
 }
 
 // A call that is not refused, by the region that is read and the other one.
 fn mix(l: Layout, m: Mixer, read: &mut [u8], write: &mut [u8], given: &[i32]) -> Mixed
-    requires { ⌜ Roomy l (length (now read)) × ((length (now write) ≡ length (now read)) × (length (now given) ≡ MIXES)) ⌝ }
+    requires { ⌜ Roomy l (length (now read)) ⌝ }
+    requires { ⌜ length (now write) ≡ length (now read) ⌝ }
+    requires { ⌜ length (now given) ≡ MIXES ⌝ }
     ensures answer { λ r. ⌜ r ≡ served l m (now (given .entry)) (now (read .entry)) ⌝ }
     ensures read { λ _. ⌜ now (read .exit) ≡ left l m (now (given .entry)) (now (read .entry), now (write .entry)) .0 ⌝ }
     ensures written { λ _. ⌜ now (write .exit) ≡ left l m (now (given .entry)) (now (read .entry), now (write .entry)) .1 ⌝ }

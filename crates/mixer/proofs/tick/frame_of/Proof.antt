@@ -5,11 +5,11 @@ use mathlib.Core.List.{List}
 use Prim.Native.Nat.{ℕ, _+_}
 use lib.ListN.{take, drop}
 use Rattle.lists.proofs.Splice.{lent-is}
-use Rattle.mixer.specs.Sizes.{auxBytes}
-use Rattle.mixer.specs.State.{auxOn}
-use Rattle.mixer.specs.Mixes.{mixOf, wordsIn}
-use Rattle.mixer.specs.Downmix.{downmixed}
-use Rattle.mixer.specs.Tick.{heard}
+use Rattle.mix_bytes.specs.Sizes.{auxBytes}
+use Rattle.mixer_state.specs.State.{auxOn}
+use Rattle.mix_bytes.specs.Mixes.{wordsIn}
+use Rattle.downmix.specs.Downmix.{downmixed}
+use Rattle.mixer.specs.Tick.{mixOf, heard}
 use borrow.Author.Needs.{needs}
 use Rattle.mixer.proofs.Buses.{zeroth}
 use Rattle.mixer.proofs.tick.frame_of.Statement.{statement}

@@ -4,10 +4,10 @@ use mathlib.Core.Bool.{cond}
 use mathlib.Core.List.{List}
 use Prim.Native.Nat.{ℕ, _+_}
 use Rattle.lists.specs.Splice.{splice}
-use Rattle.mixer.specs.Sizes.{auxBytes}
-use Rattle.mixer.specs.State.{auxOn}
-use Rattle.mixer.specs.Mixes.{mixOf, wordBytes, sampleBytes}
-use Rattle.mixer.specs.Tick.{sent}
+use Rattle.mix_bytes.specs.Sizes.{auxBytes}
+use Rattle.mixer_state.specs.State.{auxOn}
+use Rattle.mix_bytes.specs.Mixes.{wordBytes, sampleBytes}
+use Rattle.mixer.specs.Tick.{mixOf, sent}
 use borrow.Author.Needs.{needs}
 use Rattle.mixer.proofs.Buses.{zeroth}
 use Rattle.mixer.proofs.tick.write_out.Statement.{statement}
