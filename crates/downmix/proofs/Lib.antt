@@ -1,2 +1,1 @@
 pub mod Silent
-pub mod Traps

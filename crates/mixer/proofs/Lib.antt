@@ -1,3 +1,2 @@
-pub mod Buses
 pub mod Exactly
 pub mod Outcomes

@@ -5,7 +5,8 @@ use Prim.Native.Nat.{ℕ}
 use Rattle.lists.proofs.Splice.{lent-is}
 use Rattle.mixer_state.specs.declared.Mixer.{Mixer}
 use Rattle.mixer_state.specs.Configuration.{configurationBytes, configured}
-use Rattle.mixer.specs.Tick.{stateOf, frameOf, outOf}
+use Rattle.mixer_frame.specs.Frame.{frameOf, outOf}
+use Rattle.mixer.specs.Tick.{stateOf}
 use borrow.Author.Needs.{needs}
 use Rattle.mixer.proofs.tick.mix.Statement.{statement}
 use Rattle.mixer.proofs.tick.mix.Tie as tie

@@ -1,4 +1,4 @@
--- `mixer::tick::write_out` meets its contract: the calls' equations, one put into the next. Assumes nothing.
+-- `mixer_frame::write_out` meets its contract: the calls' equations, one put into the next. Assumes nothing.
 use mathlib.Core.Path.{_≡_, ap, _∙_}
 use mathlib.Core.Bool.{cond}
 use mathlib.Core.List.{List}
@@ -7,11 +7,11 @@ use Rattle.lists.specs.Splice.{splice}
 use Rattle.mix_bytes.specs.Sizes.{auxBytes}
 use Rattle.mixer_state.specs.State.{auxOn}
 use Rattle.mix_bytes.specs.Mixes.{wordBytes, sampleBytes}
-use Rattle.mixer.specs.Tick.{mixOf, sent}
+use Rattle.mixer_frame.specs.Frame.{mixOf, sent}
 use borrow.Author.Needs.{needs}
-use Rattle.mixer.proofs.Buses.{zeroth}
-use Rattle.mixer.proofs.tick.write_out.Statement.{statement}
-use Rattle.mixer.proofs.tick.write_out.Tie as tie
+use Rattle.mixer_frame.proofs.Buses.{zeroth}
+use Rattle.mixer_frame.proofs.write_out.Statement.{statement}
+use Rattle.mixer_frame.proofs.write_out.Tie as tie
 
 cast-start : tie.Need-cast-start
 cast-start c = search needs

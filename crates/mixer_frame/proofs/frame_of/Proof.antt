@@ -1,4 +1,4 @@
--- `mixer::tick::frame_of` meets its contract: the calls' equations, one put into the next. Assumes nothing.
+-- `mixer_frame::frame_of` meets its contract: the calls' equations, one put into the next. Assumes nothing.
 use mathlib.Core.Path.{_≡_, ap, _∙_}
 use mathlib.Core.Bool.{cond}
 use mathlib.Core.List.{List}
@@ -9,11 +9,11 @@ use Rattle.mix_bytes.specs.Sizes.{auxBytes}
 use Rattle.mixer_state.specs.State.{auxOn}
 use Rattle.mix_bytes.specs.Mixes.{wordsIn}
 use Rattle.downmix.specs.Downmix.{downmixed}
-use Rattle.mixer.specs.Tick.{mixOf, heard}
+use Rattle.mixer_frame.specs.Frame.{mixOf, heard}
 use borrow.Author.Needs.{needs}
-use Rattle.mixer.proofs.Buses.{zeroth}
-use Rattle.mixer.proofs.tick.frame_of.Statement.{statement}
-use Rattle.mixer.proofs.tick.frame_of.Tie as tie
+use Rattle.mixer_frame.proofs.Buses.{zeroth}
+use Rattle.mixer_frame.proofs.frame_of.Statement.{statement}
+use Rattle.mixer_frame.proofs.frame_of.Tie as tie
 
 cast-start : tie.Need-cast-start
 cast-start c = search needs
