@@ -28,11 +28,14 @@ abbrev pub side : Float → ℤ → ℤ → Float
 side v a c = at-volume v a ⊕ at-volume v c
 
 -- either as a part of the output's value, clamped to 16 bits by itself
+abbrev pub part-of : Float → ℤ
+part-of x = clamp16 (cast-i32 x)
+
 unfoldable pub mono-part : Float → ℤ → ℤ → ℤ → ℤ → ℤ
-mono-part v a b c d = clamp16 (cast-i32 (mono v a b c d))
+mono-part v a b c d = part-of (mono v a b c d)
 
 unfoldable pub stereo-part : Float → ℤ → ℤ → ℤ
-stereo-part v a c = clamp16 (cast-i32 (side v a c))
+stereo-part v a c = part-of (side v a c)
 
 -- "added in turn, clamped after each"
 unfoldable pub added : ℤ → ℤ → ℤ

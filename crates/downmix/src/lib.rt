@@ -13,7 +13,7 @@ ghost use mathlib.Core.Path.{_≡_};
 ghost use Prim.Native.Nat.{_+_, _*_, _<_};
 ghost use lib.ListN.{length};
 ghost use Rattle.numbers.specs.Sizes.{«FRAME_SAMPLES», FRAME, MIX};
-ghost use Rattle.downmix.specs.Downmix.{at-volume, mono-part, stereo-part, added, partAt, mixedIn, downmixed};
+ghost use Rattle.downmix.specs.Downmix.{at-volume, part-of, mono-part, stereo-part, added, partAt, mixedIn, downmixed};
 
 // Where channels 1, 2 and 3 of a mix begin.
 const CHANNEL_1: usize = FRAME_SAMPLES;
@@ -29,6 +29,13 @@ fn at_volume(volume: f32, value: i32) -> f32
     single_of_i32(value) * volume
 }
 
+// A mix's own part of a value, clamped to 16 bits before it is added.
+fn part_of(x: f32) -> i16
+    ensures { λ r. ⌜ r ≡ part-of x ⌝ }
+{
+    cast_clamped(x)
+}
+
 // What a mix of the channels a, b, c, d adds to either side of a mono output.
 pub fn mono_part(volume: f32, a: i32, b: i32, c: i32, d: i32) -> i16
     ensures { λ r. ⌜ r ≡ mono-part volume a b c d ⌝ }
@@ -37,14 +44,14 @@ pub fn mono_part(volume: f32, a: i32, b: i32, c: i32, d: i32) -> i16
         + at_volume(volume, b)
         + at_volume(volume, c)
         + at_volume(volume, d);
-    cast_clamped(sum / 2.0)
+    part_of(sum / 2.0)
 }
 
 // What a mix adds to one side of a stereo output, by the two channels of that side.
 pub fn stereo_part(volume: f32, a: i32, c: i32) -> i16
     ensures { λ r. ⌜ r ≡ stereo-part volume a c ⌝ }
 {
-    cast_clamped(at_volume(volume, a) + at_volume(volume, c))
+    part_of(at_volume(volume, a) + at_volume(volume, c))
 }
 
 // A value so far, and the next mix's part.

@@ -72,9 +72,9 @@ fn serve(number: u8, l: Layout, m: Mixer, read: &mut [u8], write: &mut [u8], giv
 fn number_of(first: usize, second: usize, l: Layout, mixes: usize, which: u32) -> u8
     ensures { λ r. ⌜ r ≡ numberOf first second l mixes which ⌝ }
 {
-    let number = layout::layout_number(first, second, l);
-    if number != 0 {
-        return number;
+    let found = layout::layout_number(first, second, l);
+    if found != 0 {
+        return found;
     }
     if mixes != MIXES {
         return 6;

@@ -94,7 +94,8 @@ pub fn clear_dirty(region: &mut [u8], at: usize)
     requires { ⌜ at + configurationBytes ≤ length (now region) ⌝ }
     ensures { λ _. ⌜ now (region .exit) ≡ cleared at (now (region .entry)) ⌝ }
 {
-    if read32(region, at) != 0 {
+    let dirty = read32(region, at);
+    if dirty != 0 {
         write32(region, at, 0);
     }
 }

@@ -5,10 +5,9 @@ use lib.Ieee.{binary32, ofBits, ofInt, add, div}
 use mir.Syntax.{w16}
 use mir.Facts.{toZ-ofZ}
 use borrow.Author.Needs.{needs}
-use Rattle.numbers.specs.Casts.{cast-i32, single}
-use Rattle.numbers.specs.Wrap.{clamp16}
+use Rattle.numbers.specs.Casts.{single}
 use Rattle.numbers.proofs.Bounds.{result-read}
-use Rattle.downmix.specs.Downmix.{at-volume, mono-part}
+use Rattle.downmix.specs.Downmix.{at-volume, part-of, mono-part}
 use Rattle.downmix.proofs.mono_part.Statement.{statement}
 use Rattle.downmix.proofs.mono_part.Tie as tie
 
@@ -29,8 +28,8 @@ at-volume-requires-3 c κs = search needs
 at-volume-requires-4 : tie.Need-at-volume-requires-4
 at-volume-requires-4 c κs = search needs
 
-cast-clamped-requires : tie.Need-cast-clamped-requires
-cast-clamped-requires c κs = search needs
+part-of-requires : tie.Need-part-of-requires
+part-of-requires c κs = search needs
 
 returns : tie.Need-returns
 unfolding mono-part
@@ -42,9 +41,9 @@ returns c =
     let b' = calls .before .before .at-volume2 .ensures ∙ ap (at-volume v) (toZ-ofZ (start .fits .b)) in
     let c' = calls .before .at-volume3 .ensures ∙ ap (at-volume v) (toZ-ofZ (start .fits .c)) in
     let d' = calls .at-volume4 .ensures ∙ ap (at-volume v) (toZ-ofZ (start .fits .d)) in
-    result-read w16 (c .cast-clamped .result) (c .cast-clamped .ok)
-    ∙ c .cast-clamped .ensures
-    ∙ (λ k. clamp16 (cast-i32 (div binary32 (add binary32 (add binary32 (add binary32 (a' k) (b' k)) (c' k)) (d' k)) (two-is k))))
+    result-read w16 (c .part-of .result) (c .part-of .ok)
+    ∙ c .part-of .ensures
+    ∙ (λ k. part-of (div binary32 (add binary32 (add binary32 (add binary32 (a' k) (b' k)) (c' k)) (d' k)) (two-is k)))
 
 pub mono-part-spec : {M : Type 1} → statement M
 mono-part-spec =
@@ -54,5 +53,5 @@ mono-part-spec =
     at-volume-requires-2
     at-volume-requires-3
     at-volume-requires-4
-    cast-clamped-requires
+    part-of-requires
     returns)

@@ -4,10 +4,8 @@ use lib.Ieee.{binary32, add}
 use mir.Syntax.{w16}
 use mir.Facts.{toZ-ofZ}
 use borrow.Author.Needs.{needs}
-use Rattle.numbers.specs.Casts.{cast-i32}
-use Rattle.numbers.specs.Wrap.{clamp16}
 use Rattle.numbers.proofs.Bounds.{result-read}
-use Rattle.downmix.specs.Downmix.{at-volume, stereo-part}
+use Rattle.downmix.specs.Downmix.{at-volume, part-of, stereo-part}
 use Rattle.downmix.proofs.stereo_part.Statement.{statement}
 use Rattle.downmix.proofs.stereo_part.Tie as tie
 
@@ -17,8 +15,8 @@ at-volume-requires c κs = search needs
 at-volume-requires-2 : tie.Need-at-volume-requires-2
 at-volume-requires-2 c κs = search needs
 
-cast-clamped-requires : tie.Need-cast-clamped-requires
-cast-clamped-requires c κs = search needs
+part-of-requires : tie.Need-part-of-requires
+part-of-requires c κs = search needs
 
 returns : tie.Need-returns
 unfolding stereo-part
@@ -28,11 +26,11 @@ returns c =
     let v = start .args .volume in
     let first = calls .before .at-volume .ensures ∙ ap (at-volume v) (toZ-ofZ (start .fits .a)) in
     let second = calls .at-volume2 .ensures ∙ ap (at-volume v) (toZ-ofZ (start .fits .c)) in
-    result-read w16 (c .cast-clamped .result) (c .cast-clamped .ok)
-    ∙ c .cast-clamped .ensures
-    ∙ (λ k. clamp16 (cast-i32 (add binary32 (first k) (second k))))
+    result-read w16 (c .part-of .result) (c .part-of .ok)
+    ∙ c .part-of .ensures
+    ∙ (λ k. part-of (add binary32 (first k) (second k)))
 
 pub stereo-part-spec : {M : Type 1} → statement M
 stereo-part-spec =
     tie.close
-    (tie.spec at-volume-requires at-volume-requires-2 cast-clamped-requires returns)
+    (tie.spec at-volume-requires at-volume-requires-2 part-of-requires returns)
