@@ -1,6 +1,6 @@
 // Of module 7, what a mix adds to the frame. `downmix` takes the frame so far, which it changes, a mix of 640 values, the mixer's state and
-// which of the three mixes it is. Each of the 320 values is rounded step by step in f32 and clamped to 16 bits as the mix's own part, and the
-// sum with the frame's value is clamped again. Nothing is refused: the lengths are required, and the caller makes both.
+// which of the three mixes it is. Each of the 320 values is rounded step by step in f32 and clamped to 16 bits as the mix's own part, and
+// the sum with the frame's value is clamped again. Nothing is refused: the lengths are required, and the caller makes both.
 use mixer_state::Mixer;
 use mixer_state::Output;
 use numbers::casts::cast_clamped;

@@ -1,5 +1,5 @@
-// Of module 7, mixes and final samples as bytes in a region, little-endian. `hear` takes a mix from the bytes that a title returned where its
-// aux bus is on, else from the mixes given; `send` writes a mix at its place where the bus is on; `put_frame` writes the final samples.
+// Of module 7, mixes and final samples as bytes in a region, little-endian. `hear` takes a mix from the bytes that a title returned where
+// its aux bus is on, else from the mixes given; `send` writes a mix at its place where the bus is on; `put_frame` writes the final samples.
 // Nothing is refused: that the places lie in the region is required, which the mixer's call knows from an accepted layout.
 ghost use mathlib.Core.Path.{_≡_};
 ghost use mathlib.Core.Bool.{cond};

@@ -1,5 +1,5 @@
 -- What the mixer's call comes to: which number applies, by the cases of the tests, and what the call is with its number. Assumes nothing.
-use mathlib.Core.Path.{_≡_, refl, sym, ap, _∙_}
+use mathlib.Core.Path.{_≡_, refl, sym, ap, _∙_, subst}
 use mathlib.Core.Bool.{Bool, true, false, not, cond}
 use mathlib.Core.List.{List}
 use Prim.Native.Nat.{ℕ, zero, suc, _≤_, _<_}
@@ -18,7 +18,8 @@ use Rattle.mixer.specs.Tick.{Roomy, numberOf, Outcome, refusal, served, 
 
 -- ---- the number
 
--- the chain of tests, by their outcomes: n is the layout's number, a that it is 0, b that the mixes are right, c that the region number is not
+-- the chain of tests, by their outcomes: n is the layout's number, a that it is 0, b that the mixes are right, c that the region number is
+-- not
 abbrev pub chain : Bool → Bool → Bool → ℕ → ℕ
 chain a b c n = cond a (cond (not b) 6 (cond c 8 0)) n
 
@@ -37,11 +38,15 @@ module _ (first second : ℕ) (l : Layout) (mixes which : ℕ) where
 
   pub by-region : layoutNumber first second l ≡ 0 → mixes ≡ MIXES → 1 < which → numberOf first second l mixes which ≡ 8
   by-region e m h =
-      cond-yes _ _ (eq-eqb (layoutNumber first second l) 0 e) ∙ cond-no _ _ (not-yes (eq-eqb mixes MIXES m)) ∙ cond-yes _ _ (lt-ltb 1 which h)
+      cond-yes _ _ (eq-eqb (layoutNumber first second l) 0 e)
+      ∙ cond-no _ _ (not-yes (eq-eqb mixes MIXES m))
+      ∙ cond-yes _ _ (lt-ltb 1 which h)
 
   pub none : layoutNumber first second l ≡ 0 → mixes ≡ MIXES → which ≤ 1 → numberOf first second l mixes which ≡ 0
   none e m h =
-      cond-yes _ _ (eq-eqb (layoutNumber first second l) 0 e) ∙ cond-no _ _ (not-yes (eq-eqb mixes MIXES m)) ∙ cond-no _ _ (le-ltb 1 which h)
+      cond-yes _ _ (eq-eqb (layoutNumber first second l) 0 e)
+      ∙ cond-no _ _ (not-yes (eq-eqb mixes MIXES m))
+      ∙ cond-no _ _ (le-ltb 1 which h)
 
   pub only-none : numberOf first second l mixes which ≡ 0 → (layoutNumber first second l ≡ 0) × (mixes ≡ MIXES) × (which ≤ 1)
   only-none e =
@@ -55,11 +60,31 @@ module _ (first second : ℕ) (l : Layout) (mixes which : ℕ) where
       let w = places.accepted first second l e .within in
       record { configuration = w 4 (lit< tt); final = w 5 (lit< tt); intermediate = w 6 (lit< tt) }
 
-  -- so that regions and mixes of a call with 0 are what serving it asks
-  pub makes-room : numberOf first second l mixes which ≡ 0 → Roomy l first × (first ≡ second) × (mixes ≡ MIXES)
-  makes-room e =
-      let t = only-none e in
-      (roomy (t .0), places.accepted first second l (t .0) .same, t .1)
+-- what serving a call asks of regions and mixes of these lengths, where its number is 0, whichever region is read
+pub record Ready (first second : ℕ) (l : Layout) (mixes n : ℕ) : Type 0 where
+  pub first-room : n ≡ 0 → Roomy l first
+  pub second-room : n ≡ 0 → Roomy l second
+  pub same : n ≡ 0 → first ≡ second
+  pub same-back : n ≡ 0 → second ≡ first
+  pub whole : n ≡ 0 → mixes ≡ MIXES
+
+pub ready : (first second : ℕ) (l : Layout) (mixes which n : ℕ) → n ≡ numberOf first second l mixes which → Ready first second l mixes n
+ready first second l mixes which n e = record {
+  first-room = room;
+  second-room = λ z. subst (Roomy l) (same z) (room z);
+  same = same;
+  same-back = λ z. sym (same z);
+  whole = λ z. zero z .1;
+}
+  where
+    zero : n ≡ 0 → (layoutNumber first second l ≡ 0) × (mixes ≡ MIXES) × (which ≤ 1)
+    zero z = only-none first second l mixes which (sym e ∙ z)
+
+    room : n ≡ 0 → Roomy l first
+    room z = roomy first second l mixes which (zero z .0)
+
+    same : n ≡ 0 → first ≡ second
+    same z = places.accepted first second l (zero z .0) .same
 
 -- ---- the call with its number
 

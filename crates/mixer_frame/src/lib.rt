@@ -1,7 +1,7 @@
 // Of module 7, the frame of a call that is served. `frame_of` takes the state in force, the region that is read and the 1,920 values of the
-// mixes: mix 0 is heard as given, mixes 1 and 2 as the title returned them in that region where their aux bus is on, and the three are added
-// in turn to silence. `write_out` puts the new mixes of the aux buses that are on, and the final samples, into the other region. Nothing is
-// refused: that the places lie in the regions is required, which the mixer's call knows from an accepted layout.
+// mixes: mix 0 is heard as given, mixes 1 and 2 as the title returned them in that region where their aux bus is on, and the three are
+// added in turn to silence. `write_out` puts the new mixes of the aux buses that are on, and the final samples, into the other region.
+// Nothing is refused: that the places lie in the regions is required, which the mixer's call knows from an accepted layout.
 use layout::Layout;
 use mix_bytes::sizes::AUX_BYTES;
 use mixer_state::Mixer;

@@ -1,5 +1,5 @@
-// Of module 7, the mixer's state: what is kept from frame to frame, and the configuration that changes it. `parse_config` takes the state by
-// value and the configuration's 44 bytes and gives the state back, each field changed only where its bit of the dirty word is set;
+// Of module 7, the mixer's state: what is kept from frame to frame, and the configuration that changes it. `parse_config` takes the state
+// by value and the configuration's 44 bytes and gives the state back, each field changed only where its bit of the dirty word is set;
 // `clear_dirty` then clears that word in the region. Nothing is refused: the lengths are required, which the mixer's call knows from an
 // accepted layout.
 pub mod configuration;

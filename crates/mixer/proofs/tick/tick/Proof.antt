@@ -1,12 +1,12 @@
--- `mixer::tick::tick` meets its contract: the number found makes room, and the regions go in the order of their use and come back so. Assumes
--- nothing.
-use mathlib.Core.Path.{sym, ap, _∙_, subst}
+-- `mixer::tick::tick` meets its contract: the number found makes the regions ready, and they go in the order of their use and come back so.
+-- Assumes nothing.
+use mathlib.Core.Path.{ap, _∙_}
 use mathlib.Core.List.{List}
 use Prim.Native.Nat.{ℕ}
 use lib.ListN.{length}
 use Rattle.mixer.specs.declared.tick.Mixed.{Mixed}
-use Rattle.mixer.specs.Tick.{Roomy, Outcome}
-use Rattle.mixer.proofs.Outcomes.{makes-room, read-first, read-second}
+use Rattle.mixer.specs.Tick.{Outcome}
+use Rattle.mixer.proofs.Outcomes.{ready, read-first, read-second}
 use borrow.Author.Needs.{needs}
 use Rattle.mixer.proofs.tick.tick.Statement.{statement}
 use Rattle.mixer.proofs.tick.tick.Tie as tie
@@ -28,9 +28,10 @@ serve-requires : tie.Need-serve-requires
 serve-requires c κs =
     let n = c .before .before .before in
     let a = n .before .before .before .args in
-    let e = sym (n .number-of .ensures) in
-    let room = makes-room (length (a .first .now)) (length (a .second .now)) (a .l) (length (a .given .now)) (a .which) in
-    (λ z. room (e ∙ z) .0, (λ z. sym (room (e ∙ z) .1), λ z. room (e ∙ z) .2))
+    let one = length (a .first .now) in
+    let two = length (a .second .now) in
+    let r = ready one two (a .l) (length (a .given .now)) (a .which) (n .number-of .result) (n .number-of .ensures) in
+    search needs
 
 same-length : tie.Need-same-length
 same-length c = search needs
@@ -53,9 +54,10 @@ serve-requires-2 : tie.Need-serve-requires-2
 serve-requires-2 c κs =
     let n = c .before .before .before in
     let a = n .before .before .before .args in
-    let e = sym (n .number-of .ensures) in
-    let room = makes-room (length (a .first .now)) (length (a .second .now)) (a .l) (length (a .given .now)) (a .which) in
-    (λ z. subst (Roomy (a .l)) (room (e ∙ z) .1) (room (e ∙ z) .0), (λ z. room (e ∙ z) .1, λ z. room (e ∙ z) .2))
+    let one = length (a .first .now) in
+    let two = length (a .second .now) in
+    let r = ready one two (a .l) (length (a .given .now)) (a .which) (n .number-of .result) (n .number-of .ensures) in
+    search needs
 
 same-length-3 : tie.Need-same-length-3
 same-length-3 c = search needs
