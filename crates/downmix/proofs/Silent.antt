@@ -32,7 +32,8 @@ clamped x w = ap (λ (z : ℤ). clamp16 z) (only-zero (cast-i32 x) (cast-reach 3
 
 stereo-silent : (v : Float) (a c : ℤ) → Reach v 0 → mag a < 2147483648 → mag c < 2147483648 → stereo-part v a c ≡ pos 0
 unfolding stereo-part
-stereo-silent v a c w p q = clamped _ (add-reach binary32 (at-volume v a) (at-volume v c) 0 0 (at-silent v a w p) (at-silent v c w q) (lit< tt))
+stereo-silent v a c w p q =
+    clamped _ (add-reach binary32 (at-volume v a) (at-volume v c) 0 0 (at-silent v a w p) (at-silent v c w q) (lit< tt))
 
 two-is : single (pos 2) ≡ fin false 1 (pos 1)
 unfolding ofInt
@@ -42,7 +43,9 @@ half-zero : (x : Float) → Reach x 0 → Reach (div binary32 x (fin false 1 (po
 unfolding div
 half-zero nan w = absurd w
 half-zero (inf s) w = absurd w
-half-zero (fin s m e) w = round-reach binary32 (unlike s false) (m * up e * 1) (1 * 2 * down e) 0 (some (down e) (down-pos e)) (tidy (m * up e) (down e) w) (lit< tt)
+half-zero (fin s m e) w =
+    round-reach binary32 (unlike s false) (m * up e * 1) (1 * 2 * down e) 0 (some (down e) (down-pos e)) (tidy (m * up e) (down e) w)
+    (lit< tt)
   where
     some : (d : ℕ) → 0 < d → 0 < 1 * 2 * d
     some d h = omega arith
@@ -50,12 +53,15 @@ half-zero (fin s m e) w = round-reach binary32 (unlike s false) (m * up e * 1) (
     tidy : (n d : ℕ) → n ≤ 0 * d → n * 1 ≤ 0 * (1 * 2 * d)
     tidy n d h = omega arith
 
-mono-silent : (v : Float) (a b c d : ℤ) → Reach v 0 → mag a < 2147483648 → mag b < 2147483648 → mag c < 2147483648 → mag d < 2147483648 → mono-part v a b c d ≡ pos 0
+mono-silent :
+    (v : Float) (a b c d : ℤ) → Reach v 0 → mag a < 2147483648 → mag b < 2147483648 → mag c < 2147483648 → mag d < 2147483648
+    → mono-part v a b c d ≡ pos 0
 unfolding mono-part
 mono-silent v a b c d w p q r s =
+    let two = add binary32 (at-volume v a) (at-volume v b) in
     let x = add-reach binary32 (at-volume v a) (at-volume v b) 0 0 (at-silent v a w p) (at-silent v b w q) (lit< tt) in
-    let y = add-reach binary32 (add binary32 (at-volume v a) (at-volume v b)) (at-volume v c) 0 0 x (at-silent v c w r) (lit< tt) in
-    let z = add-reach binary32 (add binary32 (add binary32 (at-volume v a) (at-volume v b)) (at-volume v c)) (at-volume v d) 0 0 y (at-silent v d w s) (lit< tt) in
+    let y = add-reach binary32 two (at-volume v c) 0 0 x (at-silent v c w r) (lit< tt) in
+    let z = add-reach binary32 (add binary32 two (at-volume v c)) (at-volume v d) 0 0 y (at-silent v d w s) (lit< tt) in
     rw two-is (clamped _ (half-zero _ z))
 
 added-zero : (o : ℤ) → mag o < 32768 → added o (pos 0) ≡ o
@@ -70,11 +76,16 @@ added-zero o h = rw (+ℤ-idr o, not-below o h, not-above o h)
     not-above (pos n) h = le-ltb 32767 n (omega arith)
     not-above (negsuc n) h = refl
 
-part-silent : (o : Output) (v : Float) (mix : List ℤ) → Reach v 0 → ((k : ℕ) → mag (getD mix k (pos 0)) < 2147483648) → (k : ℕ) → partAt o v mix k ≡ pos 0
+part-silent :
+    (o : Output) (v : Float) (mix : List ℤ) → Reach v 0 → ((k : ℕ) → mag (getD mix k (pos 0)) < 2147483648)
+    → (k : ℕ) → partAt o v mix k ≡ pos 0
 part-silent Mono v mix w m k = mono-silent v _ _ _ _ w (m _) (m _) (m _) (m _)
 part-silent Stereo v mix w m k = stereo-silent v _ _ w (m _) (m _)
 
-pub silent : (o : Output) (v : Float) (mix frame : List ℤ) → eq v +0 ≡ true → length frame ≡ 320 → ((k : ℕ) → mag (getD frame k (pos 0)) < 32768) → ((k : ℕ) → mag (getD mix k (pos 0)) < 2147483648) → frame ≡ mixedIn o v mix frame
+pub silent :
+    (o : Output) (v : Float) (mix frame : List ℤ) → eq v +0 ≡ true → length frame ≡ 320
+    → ((k : ℕ) → mag (getD frame k (pos 0)) < 32768) → ((k : ℕ) → mag (getD mix k (pos 0)) < 2147483648)
+    → frame ≡ mixedIn o v mix frame
 unfolding mixedIn
 silent o v mix frame z long f m =
     tabulated frame (λ k. added (getD frame k (pos 0)) (partAt o v mix k)) 320 (pos 0) long

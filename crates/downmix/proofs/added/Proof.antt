@@ -1,6 +1,6 @@
 -- `downmix::added` meets its contract: 32 bits hold the sum of two 16-bit numbers. Assumes nothing.
 use mathlib.Core.Path.{ap, _∙_}
-use lib.IntN.{_+ℤ_}
+use lib.IntN.{ℤ, _+ℤ_}
 use mir.Syntax.{w16, w32}
 use mir.Val.{ofZ, toZ}
 use borrow.Author.Needs.{needs}
@@ -17,8 +17,12 @@ cast-clamped c = is-fits w32 (is-param (c .fits .out)) tt
 cast-clamped-2 : tie.Need-cast-clamped-2
 cast-clamped-2 c = is-fits w32 (is-param (c .fits .part)) tt
 
+-- a 16-bit number as the code widens it
+abbrev widened : ℤ → ℤ
+widened z = toZ w32 (ofZ w32 (toZ w16 (ofZ w16 z)))
+
 -- the sum, with its bound
-both : (c : tie.Start) → Is 65536 (c .args .out +ℤ c .args .part) (toZ w32 (ofZ w32 (toZ w16 (ofZ w16 (c .args .out)))) +ℤ toZ w32 (ofZ w32 (toZ w16 (ofZ w16 (c .args .part)))))
+both : (c : tie.Start) → Is 65536 (c .args .out +ℤ c .args .part) (widened (c .args .out) +ℤ widened (c .args .part))
 both c = is-add (is-read w32 (is-param (c .fits .out)) tt) (is-read w32 (is-param (c .fits .part)) tt)
 
 add-clamped : tie.Need-add-clamped

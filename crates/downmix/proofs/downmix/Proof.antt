@@ -37,9 +37,12 @@ same-length c = search needs
 
 returns : tie.Need-returns
 returns c =
-    let a = c .before .before .before .before .before in
-    let quiet = sym (ap (λ (v : Float). eq v +0) (loud a)) ∙ ap (eq (getD (a .args .state .volume) (a .args .k) nan)) (sym zero-32) ∙ c .before .before .before .if1 .taken in
-    silent (a .args .state .output) (volumeOf (a .args .state) (a .args .k)) (a .args .mix .now) (a .args .frame .now) quiet (a .pre .0) (c .before .ranged16 .ensures) (c .ranged32 .ensures)
+    let s = c .before .before .before .before .before in
+    let a = s .args in
+    let zero = ap (eq (getD (a .state .volume) (a .k) nan)) (sym zero-32) ∙ c .before .before .before .if1 .taken in
+    let quiet = sym (ap (λ (v : Float). eq v +0) (loud s)) ∙ zero in
+    silent (a .state .output) (volumeOf (a .state) (a .k)) (a .mix .now) (a .frame .now) quiet (s .pre .0) (c .before .ranged16 .ensures)
+    (c .ranged32 .ensures)
 
 mix-in-requires : tie.Need-mix-in-requires
 mix-in-requires c κs = search needs

@@ -28,11 +28,15 @@ module _ (o : Output) (v : Float) (mix old : List ℤ) (long : length old ≡ 32
   goal-at k h = getD-tabulate (λ k. added (getD old k (pos 0)) (partAt o v mix k)) 320 k (pos 0) h
 
   -- one value stored
-  store : (now : List ℤ) (k : ℕ) (x : ℤ) → k < 320 → Filling (mixedIn o v mix old) old now k → x ≡ added (getD now k (pos 0)) (partAt o v mix k)
+  store :
+      (now : List ℤ) (k : ℕ) (x : ℤ) → k < 320 → Filling (mixedIn o v mix old) old now k
+      → x ≡ added (getD now k (pos 0)) (partAt o v mix k)
       → Filling (mixedIn o v mix old) old (set now k x) (k + 1)
   store now k x h f e =
       filling-more (mixedIn o v mix old) old now k x (pos 0) goal-long (omega arith) f
-      (e ∙ ap (λ (z : ℤ). added z (partAt o v mix k)) (filling-next (mixedIn o v mix old) old now k (pos 0) goal-long f) ∙ sym (goal-at k h))
+      (e
+      ∙ ap (λ (z : ℤ). added z (partAt o v mix k)) (filling-next (mixedIn o v mix old) old now k (pos 0) goal-long f)
+      ∙ sym (goal-at k h))
 
   -- a turn stores a pair
   turn : (now : List ℤ) (i : ℕ) (x y : ℤ) → i < 160 → Filling (mixedIn o v mix old) old now (i * 2)
@@ -95,13 +99,18 @@ mul-right : tie.Need-mul-right Inv-loop μ-loop
 mul-right c = search needs
 
 slice-set-from-right : tie.Need-slice-set-from-right Inv-loop μ-loop
-slice-set-from-right c = simp length-set (omega (arith, c .before .before .before .before .before .before .before .before .loop .inv .1 .same))
+slice-set-from-right c =
+    simp length-set (omega (arith, c .before .before .before .before .before .before .before .before .loop .inv .1 .same))
 
 add-i : tie.Need-add-i Inv-loop μ-loop
 add-i c = search needs
 
 loop-less : tie.Need-loop-less Inv-loop μ-loop
 loop-less c = search needs
+
+-- a 16-bit number as the code reads it
+abbrev read : ℤ → ℤ
+read z = toZ w16 (ofZ w16 z)
 
 loop-again : tie.Need-loop-again Inv-loop μ-loop
 loop-again c =
@@ -112,14 +121,19 @@ loop-again c =
     let k = l .i * 2 in
     let left : SFits w16 (p .parts-of .result .left) = search needs in
     let right : SFits w16 (p .parts-of .result .right) = search needs in
-    let x = toZ w16 (ofZ w16 (first .added .result)) in
-    let y = toZ w16 (ofZ w16 (c .added2 .result)) in
-    let was : toZ w16 (ofZ w16 (getD (l .frame) k (pos 0))) ≡ getD (l .frame) k (pos 0) = toZ-ofZ {w = w16} (record { sfits = first .before .before .added-arg .given }) in
-    let next : toZ w16 (ofZ w16 (getD (set (l .frame) k x) (k + 1) (pos 0))) ≡ getD (set (l .frame) k x) (k + 1) (pos 0) = toZ-ofZ {w = w16} (record { sfits = c .before .before .added-arg2 .given }) in (
+    let x = read (first .added .result) in
+    let y = read (c .added2 .result) in
+    let was : read (getD (l .frame) k (pos 0)) ≡ getD (l .frame) k (pos 0) =
+    toZ-ofZ (record { sfits = first .before .before .added-arg .given }) in
+    let next : read (getD (set (l .frame) k x) (k + 1) (pos 0)) ≡ getD (set (l .frame) k x) (k + 1) (pos 0) =
+    toZ-ofZ (record { sfits = c .before .before .added-arg2 .given }) in
+    let one = first .added in
+    let two = c .added2 in
+    let mixed = turn (a .args .output) (a .args .volume) (a .args .mix .now) (a .args .frame .now) (a .pre .0) in (
       omega arith,
-      turn (a .args .output) (a .args .volume) (a .args .mix .now) (a .args .frame .now) (a .pre .0) (l .frame) (l .i) x y (p .before .loop-test .taken) (l .inv .1)
-          (result-read w16 (first .added .result) (first .added .ok) ∙ first .added .ensures ∙ (λ j. added (was j) ((toZ-ofZ left ∙ p .parts-of .ensures .0) j)))
-          (result-read w16 (c .added2 .result) (c .added2 .ok) ∙ c .added2 .ensures ∙ (λ j. added (next j) ((toZ-ofZ right ∙ p .parts-of .ensures .1) j))),
+      mixed (l .frame) (l .i) x y (p .before .loop-test .taken) (l .inv .1)
+          (result-read w16 (one .result) (one .ok) ∙ one .ensures ∙ (λ j. added (was j) ((toZ-ofZ left ∙ p .parts-of .ensures .0) j)))
+          (result-read w16 (two .result) (two .ok) ∙ two .ensures ∙ (λ j. added (next j) ((toZ-ofZ right ∙ p .parts-of .ensures .1) j))),
     )
 
 same-length : tie.Need-same-length Inv-loop μ-loop
@@ -129,7 +143,8 @@ returns : tie.Need-returns Inv-loop μ-loop
 returns c =
     let a = c .before .before in
     let l = c .before .loop in
-    filling-all _ (a .args .frame .now) (l .frame) (l .i * 2) (goal-long (a .args .output) (a .args .volume) (a .args .mix .now) (a .args .frame .now) (a .pre .0)) (omega (arith, c .loop-test .left, a .pre .0)) (l .inv .1)
+    let long = goal-long (a .args .output) (a .args .volume) (a .args .mix .now) (a .args .frame .now) (a .pre .0) in
+    filling-all _ (a .args .frame .now) (l .frame) (l .i * 2) long (omega (arith, c .loop-test .left, a .pre .0)) (l .inv .1)
 
 pub mix-in-spec : {M : Type 1} → statement M
 mix-in-spec =

@@ -1,4 +1,5 @@
--- `downmix::parts_of` meets its contract: the four values of the sample are those of values i * 2 and i * 2 + 1 of the frame. Assumes nothing.
+-- `downmix::parts_of` meets its contract: the four values of the sample are those of values i * 2 and i * 2 + 1 of the frame. Assumes
+-- nothing.
 use mathlib.Core.Path.{_≡_, sym, ap, _∙_}
 use mathlib.Core.List.{List}
 use Prim.Native.Nat.{ℕ, _+_, _*_, _/_, _%_}
@@ -22,7 +23,8 @@ module _ (volume : Float) (mix : List ℤ) (i : ℕ) where
   abbrev value : ℕ → ℤ
   value n = getD mix n (pos 0)
 
-  mono-at : (k : ℕ) → k / 2 ≡ i → mono-part volume (value i) (value (160 + i)) (value (320 + i)) (value (480 + i)) ≡ partAt Mono volume mix k
+  mono-at :
+      (k : ℕ) → k / 2 ≡ i → mono-part volume (value i) (value (160 + i)) (value (320 + i)) (value (480 + i)) ≡ partAt Mono volume mix k
   mono-at k e = λ j. mono-part volume (value (a j)) (value (b j)) (value (c j)) (value (d j))
     where
       a : i ≡ 0 * 160 + k / 2
@@ -37,7 +39,9 @@ module _ (volume : Float) (mix : List ℤ) (i : ℕ) where
       d : 480 + i ≡ 3 * 160 + k / 2
       d = omega arith
 
-  stereo-at : (k n m : ℕ) → n ≡ k % 2 * 160 + k / 2 → m ≡ (k % 2 + 2) * 160 + k / 2 → stereo-part volume (value n) (value m) ≡ partAt Stereo volume mix k
+  stereo-at :
+      (k n m : ℕ) → n ≡ k % 2 * 160 + k / 2 → m ≡ (k % 2 + 2) * 160 + k / 2
+      → stereo-part volume (value n) (value m) ≡ partAt Stereo volume mix k
   stereo-at k n m a c = λ j. stereo-part volume (value (a j)) (value (c j))
 
 mul-a : tie.Need-mul-a
@@ -122,7 +126,8 @@ returns-2 c =
       result-read w16 (left .result) (left .ok) ∙ left .ensures ∙ (λ j. stereo-part v (toZ-ofZ a j) (toZ-ofZ e j))
           ∙ stereo-at v mix i (i * 2) i (320 + i) (omega arith) (omega arith) ∙ ap (λ (o : Output). partAt o v mix (i * 2)) (sym told),
       result-read w16 (right .result) (right .ok) ∙ right .ensures ∙ (λ j. stereo-part v (toZ-ofZ b j) (toZ-ofZ d j))
-          ∙ stereo-at v mix i (i * 2 + 1) (160 + i) (480 + i) (omega arith) (omega arith) ∙ ap (λ (o : Output). partAt o v mix (i * 2 + 1)) (sym told),
+          ∙ stereo-at v mix i (i * 2 + 1) (160 + i) (480 + i) (omega arith) (omega arith)
+          ∙ ap (λ (o : Output). partAt o v mix (i * 2 + 1)) (sym told),
     )
 
 pub parts-of-spec : {M : Type 1} → statement M

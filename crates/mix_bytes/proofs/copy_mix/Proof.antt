@@ -43,7 +43,8 @@ loop-again c =
     let l = c .before .before in
     let a = l .before in
     let s : SFits w32 (getD (a .args .given .now) (l .loop .i) (pos 0)) = search needs in
-    filling-more (a .args .given .now) (a .args .mix .now) (l .loop .mix) (l .loop .i) _ (pos 0) (a .pre) (omega arith) (l .loop .inv) (toZ-ofZ s)
+    filling-more (a .args .given .now) (a .args .mix .now) (l .loop .mix) (l .loop .i) _ (pos 0) (a .pre) (omega arith) (l .loop .inv)
+    (toZ-ofZ s)
 
 same-length : tie.Need-same-length Inv-loop μ-loop
 same-length c = c .before .loop .inv .same

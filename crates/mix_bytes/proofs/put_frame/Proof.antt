@@ -1,12 +1,7 @@
 -- `mix_bytes::put_frame` meets its contract: the part that was lent comes back as the samples' bytes, which is a splice. Assumes nothing.
-use mathlib.Core.Path.{_≡_, refl, ap, _∙_}
-use mathlib.Core.List.{List}
-use Prim.Native.Nat.{ℕ, _*_}
-use lib.IntN.{ℤ}
-use lib.ListN.{length}
-use Rattle.lists.proofs.Chunks.{length-chunks}
-use Rattle.lists.proofs.Splice.{called-is-splice}
-use Rattle.mix_bytes.specs.Mixes.{halfOf, sampleBytes}
+use Rattle.numbers.specs.Sizes.{FRAME}
+use Rattle.mix_bytes.specs.Mixes.{sampleBytes}
+use Rattle.mix_bytes.proofs.Widths.{half, lent-written}
 use borrow.Author.Needs.{needs}
 use Rattle.mix_bytes.proofs.put_frame.Statement.{statement}
 use Rattle.mix_bytes.proofs.put_frame.Tie as tie
@@ -29,15 +24,13 @@ write-frame-requires c κs = search needs
 same-length : tie.Need-same-length
 same-length c = search needs
 
-long : (frame : List ℤ) → length frame ≡ 320 → length (sampleBytes frame) ≡ 640
-unfolding sampleBytes
-long frame e = length-chunks halfOf 2 (λ z. refl) frame ∙ ap (λ (n : ℕ). n * 2) e
-
 returns : tie.Need-returns
+unfolding sampleBytes
 returns c =
     let w = c .before .before in
     let s = w .before .before .before in
-    called-is-splice (s .args .region .now) (w .write-frame .last .0) (sampleBytes (s .args .frame .now)) (s .args .at) 640 (s .pre .0) (w .write-frame .ensures) (long (s .args .frame .now) (s .pre .1))
+    lent-written half (s .args .frame .now) (s .args .region .now) (w .write-frame .last .0) (s .args .at) FRAME (s .pre .0) (s .pre .1)
+    (w .write-frame .ensures)
 
 pub put-frame-spec : {M : Type 1} → statement M
 put-frame-spec =

@@ -1,13 +1,9 @@
 -- `mix_bytes::send` meets its contract: the part that was lent comes back as the mix's bytes, which is a splice. Assumes nothing.
-use mathlib.Core.Path.{_≡_, refl, sym, ap, _∙_}
-use mathlib.Core.List.{List}
-use Prim.Native.Nat.{ℕ, _*_}
-use lib.IntN.{ℤ}
-use lib.ListN.{length}
+use mathlib.Core.Path.{sym, _∙_}
 use Rattle.lists.proofs.Bools.{cond-yes}
-use Rattle.lists.proofs.Chunks.{length-chunks}
-use Rattle.lists.proofs.Splice.{called-is-splice}
-use Rattle.mix_bytes.specs.Mixes.{wordOf, wordBytes}
+use Rattle.numbers.specs.Sizes.{MIX}
+use Rattle.mix_bytes.specs.Mixes.{wordBytes}
+use Rattle.mix_bytes.proofs.Widths.{word, lent-written}
 use borrow.Author.Needs.{needs}
 use Rattle.mix_bytes.proofs.send.Statement.{statement}
 use Rattle.mix_bytes.proofs.send.Tie as tie
@@ -30,15 +26,13 @@ write-mix-requires c κs = search needs
 same-length : tie.Need-same-length
 same-length c = search needs
 
-long : (mix : List ℤ) → length mix ≡ 640 → length (wordBytes mix) ≡ 2560
-unfolding wordBytes
-long mix e = length-chunks wordOf 4 (λ z. refl) mix ∙ ap (λ (n : ℕ). n * 4) e
-
 returns : tie.Need-returns
+unfolding wordBytes
 returns c =
     let w = c .before .before in
     let s = w .before .before .before .before in
-    called-is-splice (s .args .region .now) (w .write-mix .last .0) (wordBytes (s .args .mix .now)) (s .args .at) 2560 (s .pre .0) (w .write-mix .ensures) (long (s .args .mix .now) (s .pre .1))
+    lent-written word (s .args .mix .now) (s .args .region .now) (w .write-mix .last .0) (s .args .at) MIX (s .pre .0) (s .pre .1)
+    (w .write-mix .ensures)
     ∙ sym (cond-yes _ _ (w .before .before .if1 .taken))
 
 returns-2 : tie.Need-returns-2

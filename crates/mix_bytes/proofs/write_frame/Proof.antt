@@ -1,5 +1,5 @@
 -- `mix_bytes::write_frame` meets its contract: a turn splices one value's two bytes in. Assumes nothing.
-use mathlib.Core.Path.{_≡_, refl, ap, _∙_}
+use mathlib.Core.Path.{ap, _∙_}
 use Prim.Native.Nat.{_-_}
 use native.Mathlib.Omega.{arith}
 use lib.IntN.{ℤ, pos}
@@ -9,23 +9,20 @@ use mir.Val.{SFits}
 use mir.Facts.{toZ-ofZ}
 use Rattle.numbers.specs.Wrap.{modZ}
 use Rattle.little.specs.Little.{bytes16}
-use Rattle.lists.proofs.Chunks.{Chunked, chunked-none, chunked-called, chunked-full}
 use borrow.Author.Needs.{needs}
-use Rattle.mix_bytes.specs.Mixes.{halfOf, sampleBytes}
+use Rattle.mix_bytes.specs.Mixes.{sampleBytes}
+use Rattle.mix_bytes.proofs.Widths.{half, Writing, writing-none, writing-more, writing-all}
 use Rattle.mix_bytes.proofs.write_frame.Statement.{statement}
 use Rattle.mix_bytes.proofs.write_frame.Tie as tie
 
-wide : (value : ℤ) → length (halfOf value) ≡ 2
-wide value = refl
-
 abbrev Inv-loop : tie.InvT-loop
-Inv-loop bytes₀ frame i₀ bytes i = Chunked halfOf 2 wide frame bytes₀ bytes i
+Inv-loop bytes₀ frame i₀ bytes i = Writing half frame bytes₀ bytes i
 
 abbrev μ-loop : tie.MeasureT-loop
 μ-loop bytes₀ frame i₀ bytes i = length frame - i
 
 loop-holds : tie.Need-loop-holds Inv-loop μ-loop
-loop-holds c = chunked-none halfOf 2 wide _ _
+loop-holds c = writing-none half _ _
 
 mul-write16 : tie.Need-mul-write16 Inv-loop μ-loop
 mul-write16 c = search needs
@@ -56,8 +53,7 @@ loop-again c =
     let i = l .loop .i in
     let b = w .before .to-bits16 in
     let s : SFits w16 (getD (a .args .frame .now) i (pos 0)) = search needs in
-    chunked-called halfOf 2 wide (a .args .frame .now) (a .args .bytes .now) (l .loop .bytes) i
-    (w .write16 .last .0) (bytes16 (b .result)) (pos 0) (omega arith)
+    writing-more half (a .args .frame .now) (a .args .bytes .now) (l .loop .bytes) i (w .write16 .last .0) (bytes16 (b .result)) (omega arith)
     (w .before .before .before .before .loop-test .taken) (l .loop .inv) (w .write16 .ensures)
     (ap bytes16 (b .ensures ∙ ap (λ (z : ℤ). modZ z 65536) (toZ-ofZ s)))
 
@@ -69,7 +65,7 @@ unfolding sampleBytes
 returns c =
     let l = c .before in
     let a = l .before .before in
-    chunked-full halfOf 2 wide (a .args .frame .now) (a .args .bytes .now) (l .loop .bytes) (l .loop .i)
+    writing-all half (a .args .frame .now) (a .args .bytes .now) (l .loop .bytes) (l .loop .i)
     (omega arith) (c .loop-test .left) (l .loop .inv)
 
 pub write-frame-spec : {M : Type 1} → statement M

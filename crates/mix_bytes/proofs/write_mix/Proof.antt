@@ -1,5 +1,5 @@
 -- `mix_bytes::write_mix` meets its contract: a turn splices one value's four bytes in. Assumes nothing.
-use mathlib.Core.Path.{_≡_, refl, ap, _∙_}
+use mathlib.Core.Path.{ap, _∙_}
 use Prim.Native.Nat.{_-_}
 use native.Mathlib.Omega.{arith}
 use lib.IntN.{ℤ, pos}
@@ -9,23 +9,20 @@ use mir.Val.{SFits}
 use mir.Facts.{toZ-ofZ}
 use Rattle.numbers.specs.Wrap.{modZ}
 use Rattle.little.specs.Little.{bytes32}
-use Rattle.lists.proofs.Chunks.{Chunked, chunked-none, chunked-called, chunked-full}
 use borrow.Author.Needs.{needs}
-use Rattle.mix_bytes.specs.Mixes.{wordOf, wordBytes}
+use Rattle.mix_bytes.specs.Mixes.{wordBytes}
+use Rattle.mix_bytes.proofs.Widths.{word, Writing, writing-none, writing-more, writing-all}
 use Rattle.mix_bytes.proofs.write_mix.Statement.{statement}
 use Rattle.mix_bytes.proofs.write_mix.Tie as tie
 
-wide : (value : ℤ) → length (wordOf value) ≡ 4
-wide value = refl
-
 abbrev Inv-loop : tie.InvT-loop
-Inv-loop bytes₀ mix i₀ bytes i = Chunked wordOf 4 wide mix bytes₀ bytes i
+Inv-loop bytes₀ mix i₀ bytes i = Writing word mix bytes₀ bytes i
 
 abbrev μ-loop : tie.MeasureT-loop
 μ-loop bytes₀ mix i₀ bytes i = length mix - i
 
 loop-holds : tie.Need-loop-holds Inv-loop μ-loop
-loop-holds c = chunked-none wordOf 4 wide _ _
+loop-holds c = writing-none word _ _
 
 mul-write32 : tie.Need-mul-write32 Inv-loop μ-loop
 mul-write32 c = search needs
@@ -56,8 +53,7 @@ loop-again c =
     let i = l .loop .i in
     let b = w .before .to-bits32 in
     let s : SFits w32 (getD (a .args .mix .now) i (pos 0)) = search needs in
-    chunked-called wordOf 4 wide (a .args .mix .now) (a .args .bytes .now) (l .loop .bytes) i
-    (w .write32 .last .0) (bytes32 (b .result)) (pos 0) (omega arith)
+    writing-more word (a .args .mix .now) (a .args .bytes .now) (l .loop .bytes) i (w .write32 .last .0) (bytes32 (b .result)) (omega arith)
     (w .before .before .before .before .loop-test .taken) (l .loop .inv) (w .write32 .ensures)
     (ap bytes32 (b .ensures ∙ ap (λ (z : ℤ). modZ z 4294967296) (toZ-ofZ s)))
 
@@ -69,7 +65,7 @@ unfolding wordBytes
 returns c =
     let l = c .before in
     let a = l .before .before in
-    chunked-full wordOf 4 wide (a .args .mix .now) (a .args .bytes .now) (l .loop .bytes) (l .loop .i)
+    writing-all word (a .args .mix .now) (a .args .bytes .now) (l .loop .bytes) (l .loop .i)
     (omega arith) (c .loop-test .left) (l .loop .inv)
 
 pub write-mix-spec : {M : Type 1} → statement M

@@ -124,9 +124,12 @@ returns c =
     let mixes = a .given .now in
     let at = a .l .«intermediate_samples» in
     let m1 : h1 .hear .last .1 .1 .1 .0 ≡ heard (a .l) (a .state) read mixes 1 =
-    h1 .hear .ensures ∙ ap (λ (l : List ℕ). cond (auxOn (a .state) 0) (wordsIn l) (mixOf 1 mixes)) (lent-is at auxBytes read ∙ ap (λ (n : ℕ). take auxBytes (drop n read)) (zeroth at)) in
+    h1 .hear .ensures
+    ∙ ap (λ (l : List ℕ). cond (auxOn (a .state) 0) (wordsIn l) (mixOf 1 mixes))
+    (lent-is at auxBytes read ∙ ap (λ (n : ℕ). take auxBytes (drop n read)) (zeroth at)) in
     let m2 : h2 .hear2 .last .1 .1 .1 .0 ≡ heard (a .l) (a .state) read mixes 2 =
-    h2 .hear2 .ensures ∙ ap (λ (l : List ℕ). cond (auxOn (a .state) 1) (wordsIn l) (mixOf 2 mixes)) (lent-is (at + auxBytes) auxBytes read) in
+    h2 .hear2 .ensures
+    ∙ ap (λ (l : List ℕ). cond (auxOn (a .state) 1) (wordsIn l) (mixOf 2 mixes)) (lent-is (at + auxBytes) auxBytes read) in
     let d2 = second .downmix2 .ensures ∙ (λ i. downmixed (a .state) 1 (m1 i) (first .downmix .ensures i)) in
     third .downmix3 .ensures ∙ (λ i. downmixed (a .state) 2 (m2 i) (d2 i))
 

@@ -67,7 +67,8 @@ returns c =
     let mixes = a .given .now in
     let at = a .l .«intermediate_samples» in
     let one : first .send .last .1 .1 .0 ≡ sent (a .l) (a .state) mixes 0 (a .write .now) =
-    first .send .ensures ∙ ap (λ (n : ℕ). cond (auxOn (a .state) 0) (splice (a .write .now) n (wordBytes (mixOf 1 mixes))) (a .write .now)) (zeroth at) in
+    first .send .ensures
+    ∙ ap (λ (n : ℕ). cond (auxOn (a .state) 0) (splice (a .write .now) n (wordBytes (mixOf 1 mixes))) (a .write .now)) (zeroth at) in
     let two : second .send2 .last .1 .1 .0 ≡ sent (a .l) (a .state) mixes 1 (sent (a .l) (a .state) mixes 0 (a .write .now)) =
     second .send2 .ensures ∙ ap (λ (w : List ℕ). cond (auxOn (a .state) 1) (splice w (at + auxBytes) (wordBytes (mixOf 2 mixes))) w) one in
     p .put-frame .ensures ∙ ap (λ (w : List ℕ). splice w (a .l .«final_samples») (sampleBytes (a .frame .now))) two
