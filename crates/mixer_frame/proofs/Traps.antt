@@ -56,7 +56,8 @@ module _ (l : Layout) (s : Mixer) (read : List ℕ) (mixes : List ℤ) (i : ℕ)
       ≡ added (added (added (pos 0) (stereo-part +1 x (pos 0))) (stereo-part +1 y (pos 0))) (stereo-part +1 (pos 0) (pos 0))
   in-turn x y h =
       let inside = h .sample in
-      let one = turn s 0 _ silence i x _ inside (h .stereo) (h .loud 0 (lit< tt)) (h .first) (getD-replicate FRAME (i * 2) (pos 0) (pos 0) (omega arith)) in
+      let none = getD-replicate FRAME (i * 2) (pos 0) (pos 0) (omega arith) in
+      let one = turn s 0 _ silence i x _ inside (h .stereo) (h .loud 0 (lit< tt)) (h .first) none in
       let two = turn s 1 _ (with l s read mixes 0 silence) i y _ inside (h .stereo) (h .loud 1 (lit< tt)) (h .second) one in
       turn s 2 _ (with l s read mixes 1 (with l s read mixes 0 silence)) i (pos 0) _ inside (h .stereo) (h .loud 2 (lit< tt)) (h .third)
       two

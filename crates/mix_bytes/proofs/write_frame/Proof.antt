@@ -53,7 +53,8 @@ loop-again c =
     let i = l .loop .i in
     let b = w .before .to-bits16 in
     let s : SFits w16 (getD (a .args .frame .now) i (pos 0)) = search needs in
-    writing-more half (a .args .frame .now) (a .args .bytes .now) (l .loop .bytes) i (w .write16 .last .0) (bytes16 (b .result)) (omega arith)
+    writing-more half (a .args .frame .now) (a .args .bytes .now) (l .loop .bytes) i (w .write16 .last .0) (bytes16 (b .result))
+    (omega arith)
     (w .before .before .before .before .loop-test .taken) (l .loop .inv) (w .write16 .ensures)
     (ap bytes16 (b .ensures ∙ ap (λ (z : ℤ). modZ z 65536) (toZ-ofZ s)))
 

@@ -53,7 +53,8 @@ loop-again c =
     let i = l .loop .i in
     let b = w .before .to-bits32 in
     let s : SFits w32 (getD (a .args .mix .now) i (pos 0)) = search needs in
-    writing-more word (a .args .mix .now) (a .args .bytes .now) (l .loop .bytes) i (w .write32 .last .0) (bytes32 (b .result)) (omega arith)
+    writing-more word (a .args .mix .now) (a .args .bytes .now) (l .loop .bytes) i (w .write32 .last .0) (bytes32 (b .result))
+    (omega arith)
     (w .before .before .before .before .loop-test .taken) (l .loop .inv) (w .write32 .ensures)
     (ap bytes32 (b .ensures ∙ ap (λ (z : ℤ). modZ z 4294967296) (toZ-ofZ s)))
 
