@@ -27,7 +27,7 @@ pub record Roomy (l : Layout) (n : ℕ) : Type 0 where
   pub final : l .«final_samples» + finalBytes ≤ n
   pub intermediate : l .«intermediate_samples» + intermediateBytes ≤ n
 
--- ---- a call that is not refused, by the region that is read and the mixes
+-- ---- the state in force, by the region that is read
 
 module _ (l : Layout) where
   -- the 44 bytes of the configuration
