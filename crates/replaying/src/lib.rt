@@ -2,24 +2,20 @@
 ghost use Prim.Native.Nat.{_*_, _≤_};
 ghost use lib.ListN.{length};
 
-// The float of 32 bits, 0 where that is not a number.
+// The float of 32 bits. Those of what is not a number are, with the sign's bit dropped, above an infinity's; they all give the same one.
 pub fn single(bits: u32) -> f32 {
-    let infinity: f32 = 1.0 / 0.0;
-    if bits == 0x7f80_0000 {
-        return infinity;
+    if bits % 0x8000_0000 <= 0x7f80_0000 {
+        return f32::from_bits(bits);
     }
-    if bits == 0xff80_0000 {
-        return -infinity;
-    }
-    numbers::bits::gain_of(bits)
+    0.0 / 0.0
 }
 
-// The same of 64 bits and a double: those that are not a number, with the sign's bit dropped, are above an infinity's.
+// The same of 64 bits and a double.
 pub fn double(bits: u64) -> f64 {
     if bits % 0x8000_0000_0000_0000 <= 0x7ff0_0000_0000_0000 {
         return f64::from_bits(bits);
     }
-    0.0
+    0.0 / 0.0
 }
 
 // The bits of a float, always the same ones where it is not a number.
