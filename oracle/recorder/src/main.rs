@@ -1,7 +1,7 @@
 //! writes what the oracle answers to fixed inputs, for programs that replay
 //! it without Rust: `record REPOSITORY` writes stdin and stdout of the crates
-//! replay_memory, replay_adpcm, replay_listing, replay_numbers, replay_mixer,
-//! replay_filters and run_config. every number is little-endian.
+//! replay_memory, replay_adpcm, replay_listing, replay_numbers, replay_mixer
+//! and run_voice. every number is little-endian.
 
 mod voices;
 
@@ -303,7 +303,6 @@ fn main() -> io::Result<()> {
     adpcm(&mut Random::new(2)).write(&crates.join("replay_adpcm"))?;
     numbers(&mut Random::new(3)).write(&crates.join("replay_numbers"))?;
     mixer(&mut Random::new(4)).write(&crates.join("replay_mixer"))?;
-    voices::config(&mut Random::new(5)).write(&crates.join("run_config"))?;
-    voices::filters(&mut Random::new(6)).write(&crates.join("replay_filters"))?;
+    voices::voices().write(&crates.join("run_voice"))?;
     listing(&mut Random::new(7)).write(&crates.join("replay_listing"))
 }
