@@ -1,4 +1,6 @@
 // The record's fields but for filters and entries.
+ghost use mathlib.Core.Path.{_≡_};
+ghost use lib.ListN.{length};
 use crate::entries::format_of;
 use crate::filtering::filters_of;
 use crate::lists::singles_at;
@@ -27,7 +29,9 @@ fn double_of(low: u32, high: u32) -> f64 {
 }
 
 // The bytes up to the marks of the ramps.
-pub fn with_head(v: Voice, bytes: &[u8; 2456]) -> Voice {
+pub fn with_head(v: Voice, bytes: &[u8]) -> Voice
+    requires { ⌜ length (now bytes) ≡ 2456 ⌝ }
+{
     let mut w = v;
     w.enabled = on(bytes, 0);
     w.stereo = on(bytes, 1);
@@ -47,7 +51,7 @@ pub fn with_head(v: Voice, bytes: &[u8; 2456]) -> Voice {
 }
 
 // The bytes between the coefficients and the entries.
-pub fn with_state(v: Voice, bytes: &[u8; 2456]) -> Voice {
+pub fn with_state(v: Voice, bytes: &[u8]) -> Voice {
     let mut w = v;
     let history = History {
         yn1: to_signed16(half(bytes, 224)),
@@ -67,8 +71,10 @@ pub fn with_state(v: Voice, bytes: &[u8; 2456]) -> Voice {
     w
 }
 
-// The gains, ramps, coefficients and the frame.
-pub fn with_sound(v: Voice, bytes: &[u8; 2456]) -> Voice {
+// The gains and ramps.
+pub fn with_gains(v: Voice, bytes: &[u8]) -> Voice
+    requires { ⌜ length (now bytes) ≡ 2456 ⌝ }
+{
     let mut w = v;
     let marks = [on(bytes, 92), on(bytes, 93), on(bytes, 94)];
     w.has_ramp = marks;
@@ -78,6 +84,14 @@ pub fn with_sound(v: Voice, bytes: &[u8; 2456]) -> Voice {
     let mut ramp = [0.0f32; 12];
     singles_at(bytes, 144, &mut ramp);
     w.ramp = ramp;
+    w
+}
+
+// The coefficients and the frame.
+pub fn with_halves(v: Voice, bytes: &[u8]) -> Voice
+    requires { ⌜ length (now bytes) ≡ 2456 ⌝ }
+{
+    let mut w = v;
     let mut coefficients = [0i16; 16];
     replaying::halves_at(bytes, 192, &mut coefficients);
     w.coefficients = coefficients;

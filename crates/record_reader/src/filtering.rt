@@ -1,11 +1,15 @@
 // The record's filters.
+ghost use mathlib.Core.Path.{_≡_};
+ghost use lib.ListN.{length};
 use crate::lists::signed_at;
 use crate::parts::on;
 use filters::state::BiquadFilter;
 use filters::state::Filters;
 use filters::state::SimpleFilter;
 
-fn biquad_of(bytes: &[u8; 2456]) -> BiquadFilter {
+fn biquad_of(bytes: &[u8]) -> BiquadFilter
+    requires { ⌜ length (now bytes) ≡ 2456 ⌝ }
+{
     let mut b = [0i32; 3];
     let mut a = [0i32; 2];
     let mut x = [0i32; 4];
@@ -17,7 +21,9 @@ fn biquad_of(bytes: &[u8; 2456]) -> BiquadFilter {
     BiquadFilter { b, a, x, y }
 }
 
-pub fn filters_of(bytes: &[u8; 2456]) -> Filters {
+pub fn filters_of(bytes: &[u8]) -> Filters
+    requires { ⌜ length (now bytes) ≡ 2456 ⌝ }
+{
     let mut factors = [0i32; 2];
     let mut y1 = [0i32; 2];
     signed_at(bytes, 24, &mut factors);

@@ -41,6 +41,7 @@ fn config(random: &mut Random, replay: &mut Replay) {
         (63, embed, 0, 5, 5, 0),
         (64, embed, 0, 5, 5, 20),
         (64, embed, 0, 5, 0, 20),
+        (65, embed, 0, 5, 5, 7),
         (60, slots, 15, 5, 5, 0),
         (61, slots, 15, 5, 5, 20),
         (61, slots, 15, 0, 5, 0),
@@ -59,7 +60,7 @@ fn config(random: &mut Random, replay: &mut Replay) {
         expected.push((job, number));
     }
     // ADPCM of the lane's length and one more, by the embedded entry and by
-    // a slot; other formats; both numbers
+    // a slot; other formats; both numbers, and 7 before them
     for (queued, word, code, length, embedded, number) in [
         (0, embed, 2, 5, 1000, 0),
         (0, embed, 2, 5, 1001, 21),
@@ -70,6 +71,7 @@ fn config(random: &mut Random, replay: &mut Replay) {
         (0, slots, 2, 1001, 5, 0),
         (64, embed, 2, 5, 1001, 20),
         (63, embed, 2, 5, 1001, 21),
+        (65, embed, 2, 5, 1001, 7),
     ] {
         let mut job = Job::plain(random, 1000);
         job.queue(queued);

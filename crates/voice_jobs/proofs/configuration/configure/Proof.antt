@@ -16,7 +16,7 @@ returns c = search needs
 
 configure-requires : tie.Need-configure-requires
 configure-requires c κs =
-    let s = c .before .before .before .before .before .before .before in
+    let s = c .before .before .before .before .before .before .before .before in
     let v = c .before .before .before .record-of .result in
     let w = not-malformed-formed (s .args .lane) v (sym (c .before .before .malformed .ensures) ∙ c .before .if1 .left) in
     (search needs, (search needs, (w .queued, w .remaining)))
