@@ -10,8 +10,8 @@ use filters::state::Filters;
 use filters::state::SimpleFilter;
 use layout::Layout;
 use listing::sizes::OUTPUT_ROOM;
-use mixer::state::Mixer;
-use mixer::state::Output;
+use mixer_state::Mixer;
+use mixer_state::Output;
 
 #[no_mangle]
 pub extern "C" fn yinzhor_current_region(first: u16, second: u16) -> u32 {

@@ -1,5 +1,2 @@
-pub mod Buses
 pub mod Exactly
 pub mod Outcomes
-pub mod Traps
-pub mod Silent

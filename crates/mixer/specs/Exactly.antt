@@ -9,8 +9,9 @@ use lib.ListN.{length}
 use Rattle.layout.specs.Exactly.{LengthsWrong, EndsPast, ShareByte}
 use Rattle.layout.specs.declared.Layout.{Layout}
 use Rattle.numbers.specs.Sizes.{MIXES}
-use Rattle.mixer.specs.Tick.{Outcome, silence, ticked}
-use Rattle.mixer.specs.declared.state.Mixer.{Mixer}
+use Rattle.mixer_frame.specs.Frame.{silence}
+use Rattle.mixer.specs.Tick.{Outcome, ticked}
+use Rattle.mixer_state.specs.declared.Mixer.{Mixer}
 
 module _ (l : Layout) (m : Mixer) (mixes : List ℤ) (which : ℕ) (first second : List ℕ) where
   abbrev call : Outcome

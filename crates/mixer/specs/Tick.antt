@@ -1,21 +1,18 @@
 -- The mixer's call: what it gives back and what it leaves in the two regions, refused or not. Assumes nothing: these are definitions.
-use Prim.Native.Nat.{ℕ, zero, suc, _+_, _*_, _≤_}
+use Prim.Native.Nat.{ℕ, zero, suc, _+_, _≤_}
 use mathlib.Core.Bool.{not, cond}
 use mathlib.Core.List.{List}
 use lib.Dec.{eqb, ltb}
-use lib.IntN.{ℤ, pos}
-use lib.ListN.{length, replicate}
-use Rattle.lists.specs.Splice.{part, splice}
-use Rattle.little.specs.Little.{at32}
+use lib.IntN.{ℤ}
+use lib.ListN.{length}
+use Rattle.lists.specs.Splice.{part}
 use Rattle.layout.specs.Places.{layoutNumber}
 use Rattle.layout.specs.declared.Layout.{Layout}
-use Rattle.numbers.specs.Sizes.{FRAME, MIXES}
-use Rattle.mixer.specs.Sizes.{configurationBytes, finalBytes, auxBytes, intermediateBytes}
-use Rattle.mixer.specs.State.{auxOn}
-use Rattle.mixer.specs.Configuration.{configured}
-use Rattle.mixer.specs.Mixes.{mixOf, wordsIn, wordBytes, sampleBytes}
-use Rattle.mixer.specs.Downmix.{downmixed}
-use Rattle.mixer.specs.declared.state.Mixer.{Mixer}
+use Rattle.numbers.specs.Sizes.{MIXES}
+use Rattle.mix_bytes.specs.Sizes.{finalBytes, intermediateBytes}
+use Rattle.mixer_state.specs.Configuration.{configurationBytes, configured, cleared}
+use Rattle.mixer_frame.specs.Frame.{silence, frameOf, writeAfter}
+use Rattle.mixer_state.specs.declared.Mixer.{Mixer}
 use Rattle.mixer.specs.declared.tick.Mixed.{Mixed}
 
 -- "The lowest number that applies is returned": 1, 2 and 3 of the layout, 6 where the mixes are not 1,920 numbers, 8 where the number of
@@ -24,61 +21,22 @@ abbrev pub numberOf : ℕ → ℕ → Layout → ℕ → ℕ → ℕ
 numberOf first second l mixes which =
     cond (eqb (layoutNumber first second l) 0) (cond (not (eqb mixes MIXES)) 6 (cond (ltb 1 which) 8 0)) (layoutNumber first second l)
 
--- 160 pairs of silence
-abbrev pub silence : List ℤ
-silence = replicate FRAME (pos 0)
-
--- a region after its configuration at a place was read, which begins with the dirty word: as with a voice's, "The dirty word is then 0"
-abbrev pub cleared : ℕ → List ℕ → List ℕ
-cleared at region = cond (eqb (at32 region at) 0) region (splice region at (replicate 4 0))
-
 -- the places that the mixer uses lie within regions of so many bytes
 pub record Roomy (l : Layout) (n : ℕ) : Type 0 where
   pub configuration : l .«mixer_configuration» + configurationBytes ≤ n
   pub final : l .«final_samples» + finalBytes ≤ n
   pub intermediate : l .«intermediate_samples» + intermediateBytes ≤ n
 
--- ---- a call that is not refused, by the region that is read and the mixes
+-- ---- the state in force, by the region that is read
 
 module _ (l : Layout) where
   -- the 44 bytes of the configuration
   abbrev configurationIn : List ℕ → List ℕ
   configurationIn region = part (l .«mixer_configuration») configurationBytes region
 
-  -- where the mix of aux bus k stands
-  abbrev pub auxAt : ℕ → ℕ
-  auxAt k = l .«intermediate_samples» + k * auxBytes
-
   -- the state in force, which the call gives back
   abbrev pub stateOf : Mixer → List ℕ → Mixer
   stateOf m read = configured (configurationIn read) m
-
-  module _ (s : Mixer) (mixes : List ℤ) where
-    -- a region with the new mix of aux bus k, where that is on
-    abbrev pub sent : ℕ → List ℕ → List ℕ
-    sent k write = cond (auxOn s k) (splice write (auxAt k) (wordBytes (mixOf (suc k) mixes))) write
-
-    -- a region with the new mixes of the aux buses and these final samples
-    abbrev pub outOf : List ℤ → List ℕ → List ℕ
-    outOf frame write = splice (sent 1 (sent 0 write)) (l .«final_samples») (sampleBytes frame)
-
-  module _ (s : Mixer) (read : List ℕ) (mixes : List ℤ) where
-    -- mix k as it reaches the output: "Aux on: its mix is read from the read region"
-    abbrev pub heard : ℕ → List ℤ
-    heard zero = mixOf 0 mixes
-    heard (suc k) = cond (auxOn s k) (wordsIn (part (auxAt k) auxBytes read)) (mixOf (suc k) mixes)
-
-    -- a frame with mix k added
-    abbrev pub with : ℕ → List ℤ → List ℤ
-    with k frame = downmixed s k (heard k) frame
-
-    -- "Mixes 0, 1, 2 are added in turn"
-    abbrev pub frameOf : List ℤ
-    frameOf = with 2 (with 1 (with 0 silence))
-
-    -- the other region, after: "the new one written to the other", and the final samples
-    abbrev pub writeAfter : List ℕ → List ℕ
-    writeAfter write = outOf s mixes frameOf write
 
 -- ---- the call
 
@@ -107,21 +65,22 @@ module _ (l : Layout) (m : Mixer) (mixes : List ℤ) where
   abbrev pub left : List ℕ × List ℕ → List ℕ × List ℕ
   left used = (cleared (l .«mixer_configuration») (used .0), writeAfter l (stateOf l m (used .0)) (used .0) mixes (used .1))
 
+  -- what a call with this number gives back, 0 or that of a refusal, by the region read
+  abbrev pub answered : ℕ → List ℕ → Mixed
+  answered n read = cond (eqb n 0) (served read) (refusal m n)
+
+  -- and what it leaves in the region read and in the other one: refused, "nothing written"
+  abbrev pub after : ℕ → List ℕ × List ℕ → List ℕ × List ℕ
+  after n used = cond (eqb n 0) (left used) used
+
   module _ (which : ℕ) (first second : List ℕ) where
-    -- not refused: the regions are put in the order of their use, and back
-    abbrev pub accepted : Outcome
-    accepted =
+    -- a call with this number: the regions are put in the order of their use, and back
+    abbrev pub called : ℕ → Outcome
+    called n =
         let used = exchanged which (first, second) in
-        let after = exchanged which (left used) in
-        record { answer = served (used .0); first = after .0; second = after .1 }
-
-    -- refused: "nothing written"
-    abbrev pub refused : ℕ → Outcome
-    refused n = record { answer = refusal m n; first = first; second = second }
-
-    abbrev number : ℕ
-    number = numberOf (length first) (length second) l (length mixes) which
+        let regions = exchanged which (after n used) in
+        record { answer = answered n (used .0); first = regions .0; second = regions .1 }
 
     -- the whole call: what it gives and leaves
     unfoldable pub ticked : Outcome
-    ticked = cond (eqb number 0) accepted (refused number)
+    ticked = called (numberOf (length first) (length second) l (length mixes) which)

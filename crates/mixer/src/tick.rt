@@ -1,25 +1,17 @@
 // The mixer's call on lent memory.
-use crate::configuration::parse_config;
-use crate::downmix::downmix;
-use crate::mixes;
-use crate::sizes::AUX_BYTES;
-use crate::state::Mixer;
 use fields::mixer_config::CONFIG_SIZE;
 use layout::Layout;
+use mixer_frame::frame_of;
+use mixer_frame::write_out;
+use mixer_state::Mixer;
+use mixer_state::configuration::clear_dirty;
+use mixer_state::configuration::parse_config;
 use numbers::sizes::FRAME;
-use numbers::sizes::MIX;
 use numbers::sizes::MIXES;
 ghost use mathlib.Core.Path.{_≡_};
-ghost use Prim.Native.Nat.{_+_, _≤_};
 ghost use lib.ListN.{length};
-ghost use Rattle.numbers.specs.Sizes.{FRAME, MIXES};
-ghost use Rattle.mixer.specs.Sizes.{configurationBytes, intermediateBytes};
-ghost use Rattle.mixer.specs.Tick.{Roomy, cleared, frameOf, outOf, served, left, refusal, ticked};
-
-// Where mixes 1 and 2 of the three begin.
-const MIX_1: usize = MIX;
-
-const MIX_2: usize = 2 * MIX;
+ghost use Rattle.numbers.specs.Sizes.{MIXES};
+ghost use Rattle.mixer.specs.Tick.{Roomy, numberOf, refusal, served, left, answered, after, ticked};
 
 // What a call gives back: 0, or the number of its refusal; the state; and 160 pairs of final samples.
 pub struct Mixed {
@@ -28,61 +20,11 @@ pub struct Mixed {
     pub frame: [i16; FRAME],
 }
 
-// The frame that a state makes of the mixes given and those in the region that is read.
-fn frame_of(l: Layout, state: Mixer, read: &[u8], given: &[i32]) -> [i16; FRAME]
-    requires { ⌜ (l .«intermediate_samples» + intermediateBytes ≤ length (now read)) × (length (now given) ≡ MIXES) ⌝ }
-    ensures { λ r. ⌜ r ≡ frameOf l state (now (read .entry)) (now (given .entry)) ⌝ }
-{
-    let aux = state.aux;
-    let start = l.intermediate_samples as usize;
-    let middle = start + AUX_BYTES;
-    let end = middle + AUX_BYTES;
-    let mut first = [0i32; MIX];
-    mixes::hear(
-        aux[0],
-        &read[start..middle],
-        &given[MIX_1..MIX_2],
-        &mut first,
-    );
-    let mut second = [0i32; MIX];
-    mixes::hear(
-        aux[1],
-        &read[middle..end],
-        &given[MIX_2..MIXES],
-        &mut second,
-    );
-    let mut frame = [0i16; FRAME];
-    downmix(&mut frame, &given[0..MIX], state, 0);
-    downmix(&mut frame, &first, state, 1);
-    downmix(&mut frame, &second, state, 2);
-    frame
-}
-
-// Writes the mixes that go to the title, and the final samples.
-fn write_out(l: Layout, state: Mixer, given: &[i32], frame: &[i16], write: &mut [u8])
-    requires { ⌜ Roomy l (length (now write)) × ((length (now given) ≡ MIXES) × (length (now frame) ≡ FRAME)) ⌝ }
-    ensures { λ _. ⌜ now (write .exit) ≡ outOf l state (now (given .entry)) (now (frame .entry)) (now (write .entry)) ⌝ }
-{
-    let aux = state.aux;
-    let start = l.intermediate_samples as usize;
-    mixes::send(aux[0], &given[MIX_1..MIX_2], write, start);
-    mixes::send(aux[1], &given[MIX_2..MIXES], write, start + AUX_BYTES);
-    mixes::put_frame(frame, write, l.final_samples as usize);
-}
-
-// Clears the dirty word of the configuration at a place, where it is not 0.
-fn clear_dirty(read: &mut [u8], at: usize)
-    requires { ⌜ at + configurationBytes ≤ length (now read) ⌝ }
-    ensures { λ _. ⌜ now (read .exit) ≡ cleared at (now (read .entry)) ⌝ }
-{
-    if little::read32(read, at) != 0 {
-        little::write32(read, at, 0);
-    }
-}
-
 // A call that is not refused, by the region that is read and the other one.
 fn mix(l: Layout, m: Mixer, read: &mut [u8], write: &mut [u8], given: &[i32]) -> Mixed
-    requires { ⌜ Roomy l (length (now read)) × ((length (now write) ≡ length (now read)) × (length (now given) ≡ MIXES)) ⌝ }
+    requires { ⌜ Roomy l (length (now read)) ⌝ }
+    requires { ⌜ length (now write) ≡ length (now read) ⌝ }
+    requires { ⌜ length (now given) ≡ MIXES ⌝ }
     ensures answer { λ r. ⌜ r ≡ served l m (now (given .entry)) (now (read .entry)) ⌝ }
     ensures read { λ _. ⌜ now (read .exit) ≡ left l m (now (given .entry)) (now (read .entry), now (write .entry)) .0 ⌝ }
     ensures written { λ _. ⌜ now (write .exit) ≡ left l m (now (given .entry)) (now (read .entry), now (write .entry)) .1 ⌝ }
@@ -111,6 +53,38 @@ fn refuse(number: u8, mixer: Mixer) -> Mixed
     }
 }
 
+// A call with its number, by the region that is read and the other one.
+fn serve(number: u8, l: Layout, m: Mixer, read: &mut [u8], write: &mut [u8], given: &[i32]) -> Mixed
+    requires { ⌜ (number ≡ 0 → Roomy l (length (now read))) ⌝ }
+    requires { ⌜ (number ≡ 0 → length (now write) ≡ length (now read)) ⌝ }
+    requires { ⌜ (number ≡ 0 → length (now given) ≡ MIXES) ⌝ }
+    ensures answer { λ r. ⌜ r ≡ answered l m (now (given .entry)) number (now (read .entry)) ⌝ }
+    ensures read { λ _. ⌜ now (read .exit) ≡ after l m (now (given .entry)) number (now (read .entry), now (write .entry)) .0 ⌝ }
+    ensures written { λ _. ⌜ now (write .exit) ≡ after l m (now (given .entry)) number (now (read .entry), now (write .entry)) .1 ⌝ }
+{
+    if number != 0 {
+        return refuse(number, m);
+    }
+    mix(l, m, read, write, given)
+}
+
+// The number of a call: the lowest that applies, or 0.
+fn number_of(first: usize, second: usize, l: Layout, mixes: usize, which: u32) -> u8
+    ensures { λ r. ⌜ r ≡ numberOf first second l mixes which ⌝ }
+{
+    let found = layout::layout_number(first, second, l);
+    if found != 0 {
+        return found;
+    }
+    if mixes != MIXES {
+        return 6;
+    }
+    if which > 1 {
+        return 8;
+    }
+    0
+}
+
 // Mixes one frame: `which` is the number of the region that the title wrote last, which is read.
 pub fn tick(
     m: Mixer,
@@ -124,18 +98,9 @@ pub fn tick(
     ensures left0 { λ _. ⌜ now (first .exit) ≡ ticked l m (now (given .entry)) which (now (first .entry)) (now (second .entry)) .first ⌝ }
     ensures left1 { λ _. ⌜ now (second .exit) ≡ ticked l m (now (given .entry)) which (now (first .entry)) (now (second .entry)) .second ⌝ }
 {
-    let number = layout::layout_number(first.len(), second.len(), l);
-    if number != 0 {
-        return refuse(number, m);
-    }
-    if given.len() != MIXES {
-        return refuse(6, m);
-    }
-    if which > 1 {
-        return refuse(8, m);
-    }
+    let number = number_of(first.len(), second.len(), l, given.len(), which);
     if which == 0 {
-        return mix(l, m, first, second, given);
+        return serve(number, l, m, first, second, given);
     }
-    mix(l, m, second, first, given)
+    serve(number, l, m, second, first, given)
 }

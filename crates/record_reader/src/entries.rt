@@ -1,29 +1,44 @@
 // The record's entries: the one that plays, and the queue.
 ghost use mathlib.Core.Path.{_≡_};
-ghost use Prim.Native.Nat.{_+_, _≤_};
 ghost use lib.ListN.{length};
-use crate::parts;
-use crate::scalars::format_of;
+use crate::parts::code;
+use crate::parts::half;
+use crate::parts::on;
+use crate::parts::word;
+use adpcm::History;
+use numbers::whole::to_signed16;
 use voice::record::Entry;
+use voice::record::Format;
 use voice::record::Voice;
 
-pub fn entry_at(bytes: &[u8], at: usize) -> Entry
-    requires { ⌜ at + 24 ≤ length (now bytes) ⌝ }
-{
-    let adpcm = parts::history(bytes, at + 14);
-    let format = format_of(bytes[at + 18]);
+pub fn format_of(code: u8) -> Format {
+    if code == 0 {
+        return Format::Pcm8;
+    }
+    if code == 1 {
+        return Format::Pcm16;
+    }
+    Format::Adpcm
+}
+
+fn entry_of(bytes: &[u8]) -> Entry {
+    let adpcm = History {
+        yn1: to_signed16(half(bytes, 14)),
+        yn2: to_signed16(half(bytes, 16)),
+    };
+    let format = format_of(code(bytes, 18));
     Entry {
-        address: little::read32(bytes, at),
-        length: little::read32(bytes, at + 4),
+        address: word(bytes, 0),
+        length: word(bytes, 4),
         format,
-        stereo: parts::on(bytes, at + 19),
-        looping: parts::on(bytes, at + 20),
-        id: little::read16(bytes, at + 12),
-        has_adpcm: parts::on(bytes, at + 21),
+        stereo: on(bytes, 19),
+        looping: on(bytes, 20),
+        id: half(bytes, 12),
+        has_adpcm: on(bytes, 21),
         adpcm,
-        from_queue: parts::on(bytes, at + 22),
-        play_position: little::read32(bytes, at + 8),
-        has_played: parts::on(bytes, at + 23),
+        from_queue: on(bytes, 22),
+        play_position: word(bytes, 8),
+        has_played: on(bytes, 23),
     }
 }
 
@@ -31,12 +46,14 @@ pub fn with_entries(v: Voice, bytes: &[u8]) -> Voice
     requires { ⌜ length (now bytes) ≡ 2456 ⌝ }
 {
     let mut w = v;
-    let playing = entry_at(bytes, 256);
+    let playing = entry_of(&bytes[256..280]);
     w.playing = playing;
     let mut queue = w.queue;
     let mut i: usize = 0;
     while i < 64 {
-        let e = entry_at(bytes, 280 + i * 24);
+        let at = 280 + i * 24;
+        let end = at + 24;
+        let e = entry_of(&bytes[at..end]);
         queue[i] = e;
         i += 1;
     }

@@ -1,5 +1,5 @@
 // Test only: the record of a voice in 2,456 bytes, as programs and the oracle hand it to each other. Every number is little-endian, a mark
-// is a byte that is on unless it is 0, a float stands by its bits, and one that is not a number reads as 0.
+// is a byte that is on unless it is 0, and a float stands by its bits, all that are not a number alike.
 //
 //      0 enabled, 1 stereo: marks                     224 history: 2 x i16
 //      2 sync_count: u16                              228 queued: u32
@@ -21,18 +21,19 @@ ghost use lib.ListN.{length};
 use voice::record::Voice;
 
 mod entries;
+mod fields;
 mod filtering;
+mod lists;
 mod parts;
-mod scalars;
-mod sound;
 
 // The record that the bytes hold.
 pub fn record_of(bytes: &[u8]) -> Voice
     requires { ⌜ length (now bytes) ≡ 2456 ⌝ }
 {
     let v = voice::blank::default_voice();
-    let v = scalars::with_head(v, bytes);
-    let v = scalars::with_state(v, bytes);
-    let v = sound::with_sound(v, bytes);
+    let v = fields::with_head(v, bytes);
+    let v = fields::with_state(v, bytes);
+    let v = fields::with_gains(v, bytes);
+    let v = fields::with_halves(v, bytes);
     entries::with_entries(v, bytes)
 }

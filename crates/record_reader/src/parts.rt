@@ -1,49 +1,28 @@
-// Marks and numbers at a place.
-ghost use Prim.Native.Nat.{_+_, _<_, _≤_};
-ghost use lib.ListN.{length};
-use adpcm::History;
+// A mark, a code, a half or a word at a place: 0 where the bytes end before, so that no caller has to show that they do not.
 
-pub fn on(bytes: &[u8], at: usize) -> bool
-    requires { ⌜ at < length (now bytes) ⌝ }
-{
-    bytes[at] != 0
-}
-
-pub fn signed16(bytes: &[u8], at: usize) -> i16
-    requires { ⌜ at + 2 ≤ length (now bytes) ⌝ }
-{
-    numbers::whole::to_signed16(little::read16(bytes, at))
-}
-
-pub fn signed32(bytes: &[u8], at: usize) -> i32
-    requires { ⌜ at + 4 ≤ length (now bytes) ⌝ }
-{
-    numbers::whole::to_signed32(little::read32(bytes, at))
-}
-
-pub fn single(bytes: &[u8], at: usize) -> f32
-    requires { ⌜ at + 4 ≤ length (now bytes) ⌝ }
-{
-    replaying::single(little::read32(bytes, at))
-}
-
-fn joined(low: u32, high: u32) -> u64 {
-    high as u64 * 4_294_967_296 + low as u64
-}
-
-pub fn double(bytes: &[u8], at: usize) -> f64
-    requires { ⌜ at + 8 ≤ length (now bytes) ⌝ }
-{
-    let low = little::read32(bytes, at);
-    let high = little::read32(bytes, at + 4);
-    replaying::double(joined(low, high))
-}
-
-pub fn history(bytes: &[u8], at: usize) -> History
-    requires { ⌜ at + 4 ≤ length (now bytes) ⌝ }
-{
-    History {
-        yn1: signed16(bytes, at),
-        yn2: signed16(bytes, at + 2),
+pub fn code(bytes: &[u8], at: usize) -> u8 {
+    if at < bytes.len() {
+        return bytes[at];
     }
+    0
+}
+
+pub fn on(bytes: &[u8], at: usize) -> bool {
+    code(bytes, at) != 0
+}
+
+pub fn half(bytes: &[u8], place: u16) -> u16 {
+    let at = place as usize;
+    if at + 2 <= bytes.len() {
+        return little::read16(bytes, at);
+    }
+    0
+}
+
+pub fn word(bytes: &[u8], place: u16) -> u32 {
+    let at = place as usize;
+    if at + 4 <= bytes.len() {
+        return little::read32(bytes, at);
+    }
+    0
 }

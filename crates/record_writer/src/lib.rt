@@ -1,19 +1,16 @@
 // Test only: puts a record of a voice into its 2,456 bytes; the crate record_reader has their form.
-ghost use mathlib.Core.Path.{_≡_};
-ghost use lib.ListN.{length};
 use voice::record::Voice;
 
 mod entries;
+mod fields;
 mod filtering;
 mod parts;
-mod scalars;
 mod sound;
 
 // Puts a record over the bytes.
-pub fn put_record(v: Voice, bytes: &mut [u8])
-    requires { ⌜ length (now bytes) ≡ 2456 ⌝ }
-{
-    scalars::put_fields(v, bytes);
+pub fn put_record(v: Voice, bytes: &mut [u8; 2456]) {
+    fields::put_head(v, bytes);
+    fields::put_state(v, bytes);
     let filters = v.filters;
     filtering::put_filters(filters, bytes);
     sound::put_sound(v, bytes);

@@ -1,39 +1,10 @@
 // The words of four bytes that a record is put in, and their parts.
 ghost use Prim.Native.Nat.{_+_, _*_, _≤_};
 ghost use lib.ListN.{length};
-use voice::record::Format;
-use voice::record::Interpolation;
-
-pub fn mark(on: bool) -> u8 {
-    if on {
-        return 1;
-    }
-    0
-}
-
-pub fn format_code(f: Format) -> u8 {
-    match f {
-        Format::Pcm8 => 0,
-        Format::Pcm16 => 1,
-        Format::Adpcm => 2,
-    }
-}
-
-pub fn interpolation_code(i: Interpolation) -> u8 {
-    match i {
-        Interpolation::Polyphase => 0,
-        Interpolation::Linear => 1,
-        Interpolation::None => 2,
-    }
-}
 
 // Two bytes as a half of a word, the first one low.
 pub fn pair(first: u8, second: u8) -> u16 {
     second as u16 * 256 + first as u16
-}
-
-pub fn marks(first: bool, second: bool) -> u16 {
-    pair(mark(first), mark(second))
 }
 
 // Two halves as a word, the first one low.

@@ -4,10 +4,10 @@
 ghost use mathlib.Core.Path.{_≡_};
 ghost use lib.ListN.{length};
 use layout::Layout;
-use mixer::state::Mixer;
-use mixer::state::Output;
 use mixer::tick::Mixed;
 use mixer::tick::tick;
+use mixer_state::Mixer;
+use mixer_state::Output;
 use replaying::bits32;
 use replaying::single;
 

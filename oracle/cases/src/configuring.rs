@@ -21,9 +21,19 @@ pub const ANSWER: usize = 4 + RECORD + CONFIGURATION;
 const ENTRY: usize = 24;
 const PLAYING: usize = 256;
 const QUEUE: usize = 280;
-const FRAME: usize = 1816;
+pub const FRAME: usize = 1816;
 const PLACES: usize = 64;
+/// where the record's filters stand: 17 words, the first 4 the simple one's.
+pub const FILTERS: usize = 24;
 const MARKS: [usize; 10] = [0, 1, 6, 7, 92, 93, 94, 232, 233, 234];
+
+/// the kinds of a job of run_voice.
+pub const KIND_CONFIGURATION: u32 = 0;
+pub const KIND_FILTERS: u32 = 1;
+
+/// the bits that the port writes for what is not a number.
+const NAN32: u32 = 0x7FC0_0000;
+const NAN64: u64 = 0x7FF8_0000_0000_0000;
 
 /// bits of the dirty word that mean something.
 pub const FLAGS: [u32; 19] = [0, 1, 2, 3, 4, 16, 17, 18, 19, 21, 22, 23, 24, 25, 26, 27, 28, 29, 30];
@@ -54,6 +64,14 @@ fn put<const N: usize>(bytes: &mut [u8], at: usize, value: [u8; N]) {
 
 fn put_dsp32(bytes: &mut [u8], at: usize, value: u32) {
     put(bytes, at, value.rotate_left(16).to_le_bytes());
+}
+
+fn bits32(x: f32) -> u32 {
+    if x.is_nan() { NAN32 } else { x.to_bits() }
+}
+
+fn bits64(x: f64) -> u64 {
+    if x.is_nan() { NAN64 } else { x.to_bits() }
 }
 
 fn format_of(code: u8) -> ProbeFormat {
@@ -156,13 +174,13 @@ pub fn record_of(voice: &ProbeVoice) -> Vec<u8> {
     put(&mut bytes, 0, [voice.enabled, voice.stereo].map(u8::from));
     put(&mut bytes, 2, voice.sync_count.to_le_bytes());
     put(&mut bytes, 4, [voice.format as u8, voice.interpolation as u8]);
-    put(&mut bytes, 8, voice.rate.to_bits().to_le_bytes());
-    put(&mut bytes, 16, voice.fraction.to_bits().to_le_bytes());
+    put(&mut bytes, 8, bits64(voice.rate).to_le_bytes());
+    put(&mut bytes, 16, bits64(voice.fraction).to_le_bytes());
     put_filters(&voice.filters, &mut bytes);
     put(&mut bytes, 92, voice.ramp.map(|ramp| ramp.is_some() as u8));
     let ramps = voice.ramp.map(|ramp| ramp.unwrap_or([0.0; 4]));
     for (i, gain) in [voice.gain, ramps].as_flattened().as_flattened().iter().enumerate() {
-        put(&mut bytes, 96 + 4 * i, gain.to_bits().to_le_bytes());
+        put(&mut bytes, 96 + 4 * i, bits32(*gain).to_le_bytes());
     }
     for (i, value) in voice.coefficients.iter().chain(&voice.history).enumerate() {
         put(&mut bytes, 192 + 2 * i, value.to_le_bytes());
@@ -256,7 +274,8 @@ impl Job {
 
     /// as the program reads it.
     pub fn bytes(&self) -> Vec<u8> {
-        [&self.lane.to_le_bytes()[..], &self.record, &self.configuration, &self.coefficients].concat()
+        let head = [KIND_CONFIGURATION, self.lane].map(u32::to_le_bytes);
+        [head.as_flattened(), &self.record, &self.configuration, &self.coefficients].concat()
     }
 
     /// document 01's numbers 7, 20 and 21.
@@ -318,6 +337,109 @@ impl Job {
     pub fn parse(voice: &mut ProbeVoice, memory: &mut Memory) {
         probe_parse_config(voice, memory, 0, CONFIGURATION as u32);
     }
+}
+
+/// rates about which number 7 turns, and whether they are malformed.
+const RATES: [(f64, bool); 10] = [
+    (0.0, true),
+    (-0.0, true),
+    (5e-324, false),
+    (-5e-324, true),
+    (f64::MAX, false),
+    (f64::INFINITY, true),
+    (f64::NEG_INFINITY, true),
+    (f64::NAN, true),
+    (-f64::NAN, true),
+    (-1.0, true),
+];
+
+/// the same of fractions.
+const FRACTIONS: [(f64, bool); 7] = [
+    (0.0, false),
+    (-0.0, false),
+    (-5e-324, true),
+    (f64::INFINITY, false),
+    (f64::NEG_INFINITY, true),
+    (f64::NAN, true),
+    (-f64::NAN, true),
+];
+
+/// records at each rule of number 7 and one beside, with a lane of 100, over
+/// the default record, with the number by document 01.
+pub fn at_seven(random: &mut Random) -> Vec<(Job, u8)> {
+    const LANE: u32 = 100;
+    let mut jobs = Vec::new();
+    let mut add = |malformed: bool, set: &dyn Fn(&mut [u8])| {
+        let mut job = Job::plain(random, LANE);
+        set(&mut job.record);
+        jobs.push((job, if malformed { 7 } else { 0 }));
+    };
+    for past in [0, 1] {
+        add(past == 1, &|record| put(record, 228, (PLACES as u32 + past).to_le_bytes()));
+        add(past == 1, &|record| put(record, 236, (LANE + past).to_le_bytes()));
+        for length in [0, 5, u32::MAX - 1] {
+            add(past == 1, &|record| {
+                put(record, 240, (length + past).to_le_bytes());
+                put(record, 244, length.to_le_bytes());
+            });
+        }
+    }
+    // an entry of this format and length in this place, with 3 queued
+    for (place, format, length) in
+        [(0, 2, LANE + 1), (2, 2, LANE), (2, 2, LANE + 1), (3, 2, LANE + 1), (2, 1, LANE + 1), (2, 0, u32::MAX)]
+    {
+        add(place < 3 && format == 2 && length > LANE, &|record| {
+            let entry = QUEUE + ENTRY * place;
+            put(record, 228, 3u32.to_le_bytes());
+            record[entry + 18] = format;
+            put(record, entry + 4, length.to_le_bytes());
+        });
+    }
+    for (rate, malformed) in RATES {
+        add(malformed, &|record| put(record, 8, rate.to_bits().to_le_bytes()));
+    }
+    for (fraction, malformed) in FRACTIONS {
+        add(malformed, &|record| put(record, 16, fraction.to_bits().to_le_bytes()));
+    }
+    // all of a filter's numbers at the boundary, and each of them past it;
+    // past it under a mark that is off
+    for (bound, past) in [(-32_768i32, -32_769i32), (32_768, 32_769)] {
+        let fill = |record: &mut [u8], from: usize, to: usize, value: i32| {
+            (from..to).for_each(|i| put(record, FILTERS + 4 * i, value.to_le_bytes()))
+        };
+        for i in 0..17 {
+            add(true, &|record| {
+                put(record, 6, [1, 1]);
+                fill(record, 0, 17, bound);
+                fill(record, i, i + 1, past);
+            });
+        }
+        for marks in [[1, 1], [1, 0], [0, 1], [0, 0]] {
+            add(false, &|record| {
+                put(record, 6, marks);
+                fill(record, 0, 4, if marks[0] == 1 { bound } else { past });
+                fill(record, 4, 17, if marks[1] == 1 { bound } else { past });
+            });
+        }
+    }
+    jobs
+}
+
+/// gains that are not a number, with and without new ones, and ramps of them
+/// with the mark on and off.
+pub fn not_numbers(random: &mut Random) -> Vec<(Job, u8)> {
+    let mut jobs = Vec::new();
+    for (word, mark) in [(0, 0), (0, 1), (1 << 24 | 1 << 25 | 1 << 26, 0), (u32::MAX, 1)] {
+        let mut job = Job::plain(random, 100);
+        job.flag(word);
+        job.format(1);
+        put(&mut job.record, 92, [mark; 3]);
+        for at in (96..192).step_by(4) {
+            put(&mut job.record, at, NAN32.to_le_bytes());
+        }
+        jobs.push((job, 0));
+    }
+    jobs
 }
 
 /// document 01's list; what a mark or the count leaves out is not asked.
@@ -386,10 +508,8 @@ fn random_record(random: &mut Random, lane: u32) -> Vec<u8> {
         }
     }
     for at in (96..192).step_by(4) {
-        if f32::from_bits(read32(&record, at)).is_nan() {
-            put(&mut record, at, floats::sample(random).to_le_bytes());
-            put(&mut record, at + 2, [0x80, 0x3F]);
-        }
+        let gain = if random.below(16) == 0 { f32::NAN } else { f32::from_bits(read32(&record, at)) };
+        put(&mut record, at, bits32(gain).to_le_bytes());
     }
     let queued = match word >> 1 & 3 {
         0 => 0,
@@ -422,8 +542,8 @@ fn malform(random: &mut Random, lane: u32, record: &mut [u8]) {
             record[entry + 18] = 2;
             put(record, entry + 4, (lane + past).to_le_bytes());
         }
-        4 => put(record, 8, random.pick(&[0.0, -1.0, f64::INFINITY, 5e-324, f64::MAX]).to_bits().to_le_bytes()),
-        5 => put(record, 16, random.pick(&[-5e-324, -0.0, f64::INFINITY, f64::NEG_INFINITY]).to_bits().to_le_bytes()),
+        4 => put(record, 8, random.pick(&RATES).0.to_bits().to_le_bytes()),
+        5 => put(record, 16, random.pick(&FRACTIONS).0.to_bits().to_le_bytes()),
         _ => {
             let value = random.pick(&[-32_769, -32_768, 32_768, 32_769, i32::MIN, i32::MAX]);
             put(record, 24 + 4 * random.below(17), value.to_le_bytes());

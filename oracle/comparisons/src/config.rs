@@ -1,5 +1,5 @@
 //! the configuration reader: number, record and configuration. the program
-//! run_config serves the port's side through pipes. the numbers' oracle is
+//! run_voice serves the port's side through pipes. the numbers' oracle is
 //! document 01's table, that of the rest the source's `parse_config`.
 
 use std::io::{Read, Write};
@@ -8,9 +8,11 @@ use std::sync::mpsc::{SyncSender, sync_channel};
 use std::thread;
 
 use cases::Random;
-use cases::configuring::{ANSWER, FLAGS, Job, RECORD, voice_of};
+use cases::configuring::{ANSWER, FLAGS, Job, RECORD, at_seven, not_numbers, voice_of};
 
-const PROGRAM: &str = concat!(env!("CARGO_MANIFEST_DIR"), "/../../target/bin/run_config");
+const PROGRAM: &str = concat!(env!("CARGO_MANIFEST_DIR"), "/../../target/bin/run_voice");
+/// every number that a job can be answered by; each must be met.
+const NUMBERS: [u8; 4] = [0, 7, 20, 21];
 /// how many jobs are handed over together. the program works on one batch
 /// while the answers to the one before are held against the oracle's.
 const BATCH: usize = 256;
@@ -40,7 +42,7 @@ fn feed(
     sender: SyncSender<Vec<u8>>,
     mut stdout: ChildStdout,
 ) -> Result<u64, String> {
-    let mut compared = 0;
+    let mut met = NUMBERS.map(|number| (number, 0));
     let mut before = Vec::new();
     let mut left = count;
     let mut batch = fixed(random);
@@ -49,11 +51,11 @@ fn feed(
             sender.send(batch.iter().flat_map(Job::bytes).collect()).map_err(|_| "the program ended".to_string())?;
         }
         for job in &before {
-            check(job, &mut stdout)?;
-            compared += 1;
+            let number = check(job, &mut stdout)?;
+            met.iter_mut().filter(|(known, _)| *known == number).for_each(|(_, times)| *times += 1);
         }
         if batch.is_empty() {
-            return Ok(compared);
+            return tell(&met);
         }
         let next = left.min(BATCH);
         left -= next;
@@ -61,9 +63,21 @@ fn feed(
     }
 }
 
-/// every flag alone, over random records.
+/// says how often each number was met, and fails where one never was.
+fn tell(met: &[(u8, u64)]) -> Result<u64, String> {
+    let told: Vec<String> = met.iter().map(|(number, times)| format!("{number} {times} times")).collect();
+    let told = format!("numbers met: {}", told.join(", "));
+    if met.iter().any(|(_, times)| *times == 0) {
+        return Err(told);
+    }
+    println!("config: {told}");
+    Ok(met.iter().map(|(_, times)| times).sum())
+}
+
+/// the boundaries of number 7, gains that are not a number, and every flag
+/// alone, over random records.
 fn fixed(random: &mut Random) -> Vec<Job> {
-    let mut jobs = Vec::new();
+    let mut jobs: Vec<Job> = at_seven(random).into_iter().chain(not_numbers(random)).map(|(job, _)| job).collect();
     for bit in FLAGS {
         for _ in 0..8 {
             let mut job = Job::random(random);
@@ -74,12 +88,13 @@ fn fixed(random: &mut Random) -> Vec<Job> {
     jobs
 }
 
-fn check(job: &Job, stdout: &mut ChildStdout) -> Result<(), String> {
+/// the number, where all is the same.
+fn check(job: &Job, stdout: &mut ChildStdout) -> Result<u8, String> {
     let mut port = vec![0; ANSWER];
     stdout.read_exact(&mut port).map_err(|error| format!("{job}\nthe program gave no answer: {error}"))?;
     let oracle = job.answer();
     let Some(at) = (0..ANSWER).find(|&at| oracle[at] != port[at]) else {
-        return Ok(());
+        return Ok(port[0]);
     };
     let place = match at {
         0..4 => format!("the number, {} and {}", oracle[0], port[0]),

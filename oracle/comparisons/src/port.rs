@@ -48,22 +48,11 @@ unsafe extern "C" {
     pub safe fn yinzhor_interpolate(a: i16, b: i16, fraction: f64) -> i16;
     fn yinzhor_fading(from: f32, to: f32, i: usize, sample: i16) -> i32;
 
-    fn yinzhor_filter(
-        marks: *const u8,
-        marks_len: usize,
-        simple: *mut i32,
-        simple_len: usize,
-        biquad: *mut i32,
-        biquad_len: usize,
-        samples: *mut i16,
-        samples_len: usize,
-    ) -> bool;
-
-    fn yinzhor_record(lane: usize, record: *mut u8, record_len: usize) -> u8;
+    fn yinzhor_filter(count: usize, record: *mut u8) -> bool;
+    fn yinzhor_record(lane: usize, record: *mut u8) -> u8;
     fn yinzhor_configure(
         lane: usize,
         record: *mut u8,
-        record_len: usize,
         configuration: *mut u8,
         configuration_len: usize,
         coefficients: *const u8,
@@ -122,9 +111,8 @@ pub fn present(window: &[u8], base: u32, address: u32, count: u32) -> bool {
 pub fn physical(window: &[u8], base: u32, address: u32, count: u32) -> Vec<u8> {
     assert!(base as u64 + window.len() as u64 <= 1 << 32);
     let mut out = vec![0; window.len()];
-    let length = unsafe {
-        yinzhor_physical(window.as_ptr(), window.len(), base, address, count, out.as_mut_ptr(), out.len())
-    };
+    let length =
+        unsafe { yinzhor_physical(window.as_ptr(), window.len(), base, address, count, out.as_mut_ptr(), out.len()) };
     assert!(length <= out.len(), "a part longer than the window");
     out.truncate(length);
     out
@@ -191,22 +179,11 @@ pub fn mixer_tick(offsets: &[u32; 7], read: u32, mixes: &[i32], mixed: &mut Mixe
     }
 }
 
-/// filters in place: marks of the two filters, b0, a1 and y1 of the first,
-/// b, a, x and y of the second, and left and right of each sample in turn.
-pub fn filter(marks: &[u8; 2], simple: &mut [i32; 4], biquad: &mut [i32; 13], samples: &mut [i16]) {
-    let served = unsafe {
-        yinzhor_filter(
-            marks.as_ptr(),
-            marks.len(),
-            simple.as_mut_ptr(),
-            simple.len(),
-            biquad.as_mut_ptr(),
-            biquad.len(),
-            samples.as_mut_ptr(),
-            samples.len(),
-        )
-    };
-    assert!(served, "filters out of range");
+/// puts so many pairs of a record's frame through its filters, and says
+/// whether these are in range.
+pub fn filter(count: usize, record: &mut [u8]) -> bool {
+    assert!(count <= 160 && record.len() == RECORD);
+    unsafe { yinzhor_filter(count, record.as_mut_ptr()) }
 }
 
 /// serves a voice's configuration, its record in bytes, with a lane of so
@@ -217,7 +194,6 @@ pub fn configure(lane: u32, record: &mut [u8], configuration: &mut [u8], coeffic
         yinzhor_configure(
             lane as usize,
             record.as_mut_ptr(),
-            record.len(),
             configuration.as_mut_ptr(),
             configuration.len(),
             coefficients.as_ptr(),
@@ -229,5 +205,5 @@ pub fn configure(lane: u32, record: &mut [u8], configuration: &mut [u8], coeffic
 /// what `configure` does besides configuring.
 pub fn record(lane: u32, record: &mut [u8]) -> u8 {
     assert_eq!(record.len(), RECORD);
-    unsafe { yinzhor_record(lane as usize, record.as_mut_ptr(), record.len()) }
+    unsafe { yinzhor_record(lane as usize, record.as_mut_ptr()) }
 }

@@ -3,10 +3,10 @@ use mathlib.Core.Path.{_≡_, ap, _∙_}
 use mathlib.Core.List.{List}
 use Prim.Native.Nat.{ℕ}
 use Rattle.lists.proofs.Splice.{lent-is}
-use Rattle.mixer.specs.Sizes.{configurationBytes}
-use Rattle.mixer.specs.declared.state.Mixer.{Mixer}
-use Rattle.mixer.specs.Configuration.{configured}
-use Rattle.mixer.specs.Tick.{stateOf, frameOf, outOf}
+use Rattle.mixer_state.specs.declared.Mixer.{Mixer}
+use Rattle.mixer_state.specs.Configuration.{configurationBytes, configured}
+use Rattle.mixer_frame.specs.Frame.{frameOf, outOf}
+use Rattle.mixer.specs.Tick.{stateOf}
 use borrow.Author.Needs.{needs}
 use Rattle.mixer.proofs.tick.mix.Statement.{statement}
 use Rattle.mixer.proofs.tick.mix.Tie as tie

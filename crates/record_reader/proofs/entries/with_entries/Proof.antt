@@ -10,20 +10,41 @@ Inv-loop bytes w queue₀ i₀ queue i = Unit {0}
 abbrev μ-loop : tie.MeasureT-loop
 μ-loop bytes w queue₀ i₀ queue i = 64 - i
 
-entry-at-requires : tie.Need-entry-at-requires Inv-loop μ-loop
-entry-at-requires c κs = search needs
+sub-entry-of : tie.Need-sub-entry-of Inv-loop μ-loop
+sub-entry-of c = search needs
+
+part-entry-of-start : tie.Need-part-entry-of-start Inv-loop μ-loop
+part-entry-of-start c = search needs
+
+part-entry-of-end : tie.Need-part-entry-of-end Inv-loop μ-loop
+part-entry-of-end c = search needs
+
+entry-of-requires : tie.Need-entry-of-requires Inv-loop μ-loop
+entry-of-requires c κs = tt
 
 loop-holds : tie.Need-loop-holds Inv-loop μ-loop
 loop-holds c = tt
 
-mul-entry-at : tie.Need-mul-entry-at Inv-loop μ-loop
-mul-entry-at c = search needs
+mul-at : tie.Need-mul-at Inv-loop μ-loop
+mul-at c = search needs
 
-add-entry-at : tie.Need-add-entry-at Inv-loop μ-loop
-add-entry-at c = search needs
+add-at : tie.Need-add-at Inv-loop μ-loop
+add-at c = search needs
 
-entry-at-requires-2 : tie.Need-entry-at-requires-2 Inv-loop μ-loop
-entry-at-requires-2 c κs = search needs
+add-end : tie.Need-add-end Inv-loop μ-loop
+add-end c = search needs
+
+sub-entry-of-2 : tie.Need-sub-entry-of-2 Inv-loop μ-loop
+sub-entry-of-2 c = search needs
+
+part-entry-of-start-2 : tie.Need-part-entry-of-start-2 Inv-loop μ-loop
+part-entry-of-start-2 c = search needs
+
+part-entry-of-end-2 : tie.Need-part-entry-of-end-2 Inv-loop μ-loop
+part-entry-of-end-2 c = search needs
+
+entry-of-requires-2 : tie.Need-entry-of-requires-2 Inv-loop μ-loop
+entry-of-requires-2 c κs = tt
 
 mul-queue : tie.Need-mul-queue Inv-loop μ-loop
 mul-queue c = search needs
@@ -49,11 +70,18 @@ with-entries-spec =
     (tie.spec
     Inv-loop
     μ-loop
-    entry-at-requires
+    sub-entry-of
+    part-entry-of-start
+    part-entry-of-end
+    entry-of-requires
     loop-holds
-    mul-entry-at
-    add-entry-at
-    entry-at-requires-2
+    mul-at
+    add-at
+    add-end
+    sub-entry-of-2
+    part-entry-of-start-2
+    part-entry-of-end-2
+    entry-of-requires-2
     mul-queue
     array-set-from-queue
     add-i

