@@ -1,25 +1,22 @@
-// Test only: what the programs that replay the oracle's answers share.
-ghost use Prim.Native.Nat.{_*_, _≤_};
+// Test only: what the programs that replay the oracle's answers share. Floats go in and out by their bits, samples by their bytes. Nothing
+// is refused: each function asks for the room that it fills.
+ghost use Prim.Native.Nat.{_+_, _*_, _≤_};
 ghost use lib.ListN.{length};
 
-// The float of 32 bits, 0 where that is not a number.
+// The float of 32 bits: those above an infinity's, with the sign's bit dropped, are not a number.
 pub fn single(bits: u32) -> f32 {
-    let infinity: f32 = 1.0 / 0.0;
-    if bits == 0x7f80_0000 {
-        return infinity;
+    if bits % 0x8000_0000 <= 0x7f80_0000 {
+        return f32::from_bits(bits);
     }
-    if bits == 0xff80_0000 {
-        return -infinity;
-    }
-    numbers::bits::gain_of(bits)
+    0.0 / 0.0
 }
 
-// The same of 64 bits and a double: those that are not a number, with the sign's bit dropped, are above an infinity's.
+// The same of 64 bits and a double.
 pub fn double(bits: u64) -> f64 {
     if bits % 0x8000_0000_0000_0000 <= 0x7ff0_0000_0000_0000 {
         return f64::from_bits(bits);
     }
-    0.0
+    0.0 / 0.0
 }
 
 // The bits of a float, always the same ones where it is not a number.
@@ -38,13 +35,24 @@ pub fn bits64(x: f64) -> u64 {
     0x7ff8_0000_0000_0000
 }
 
-// Puts samples at the start of bytes, two for each.
-fn put_samples(samples: &[i16], bytes: &mut [u8])
-    requires { ⌜ length (now samples) * 2 ≤ length (now bytes) ⌝ }
+// Reads signed halves from a place of the bytes on.
+pub fn halves_at(bytes: &[u8], at: usize, out: &mut [i16])
+    requires { ⌜ at + length (now out) * 2 ≤ length (now bytes) ⌝ }
 {
     let mut i = 0;
-    while i < samples.len() {
-        little::write16(bytes, i * 2, numbers::whole::to_bits16(samples[i]));
+    while i < out.len() {
+        out[i] = little::signed_at(bytes, at + i * 2);
+        i += 1;
+    }
+}
+
+// Puts signed halves from a place of the bytes on.
+pub fn put_halves(values: &[i16], bytes: &mut [u8], at: usize)
+    requires { ⌜ at + length (now values) * 2 ≤ length (now bytes) ⌝ }
+{
+    let mut i = 0;
+    while i < values.len() {
+        little::write16(bytes, at + i * 2, numbers::whole::to_bits16(values[i]));
         i += 1;
     }
 }
@@ -54,7 +62,7 @@ pub fn write_samples(samples: &[i16]) -> bool
     requires { ⌜ length (now samples) ≤ 65537 ⌝ }
 {
     let mut bytes = [0u8; 131074];
-    put_samples(samples, &mut bytes);
+    put_halves(samples, &mut bytes, 0);
     let end = samples.len() * 2;
     io::write_all(1, &bytes[0..end])
 }

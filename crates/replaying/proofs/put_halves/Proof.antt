@@ -1,22 +1,25 @@
--- `replaying::put_samples` is safe: the bytes stay as many. Assumes nothing.
+-- `replaying::put_halves` is safe: the bytes stay as many. Assumes nothing.
 use mathlib.Core.Path.{_≡_, refl}
 use Prim.Native.Nat.{_-_}
 use lib.ListN.{length}
 use borrow.Author.Needs.{needs}
-use Rattle.replaying.proofs.put_samples.Statement.{statement}
-use Rattle.replaying.proofs.put_samples.Tie as tie
+use Rattle.replaying.proofs.put_halves.Statement.{statement}
+use Rattle.replaying.proofs.put_halves.Tie as tie
 
 abbrev Inv-loop : tie.InvT-loop
-Inv-loop samples bytes₀ i₀ bytes i = length bytes ≡ length bytes₀
+Inv-loop values bytes₀ at i₀ bytes i = length bytes ≡ length bytes₀
 
 abbrev μ-loop : tie.MeasureT-loop
-μ-loop samples bytes₀ i₀ bytes i = length samples - i
+μ-loop values bytes₀ at i₀ bytes i = length values - i
 
 loop-holds : tie.Need-loop-holds Inv-loop μ-loop
 loop-holds c = refl
 
 mul-write16 : tie.Need-mul-write16 Inv-loop μ-loop
 mul-write16 c = search needs
+
+add-write16 : tie.Need-add-write16 Inv-loop μ-loop
+add-write16 c = search needs
 
 mul-to-bits16 : tie.Need-mul-to-bits16 Inv-loop μ-loop
 mul-to-bits16 c = search needs
@@ -25,7 +28,7 @@ shared-slice-copy-out-to-bits16 : tie.Need-shared-slice-copy-out-to-bits16 Inv-l
 shared-slice-copy-out-to-bits16 c = search needs
 
 to-bits16-requires : tie.Need-to-bits16-requires Inv-loop μ-loop
-to-bits16-requires c κs = tt
+to-bits16-requires c κs = search needs
 
 write16-requires : tie.Need-write16-requires Inv-loop μ-loop
 write16-requires c κs = search needs
@@ -43,16 +46,17 @@ same-length : tie.Need-same-length Inv-loop μ-loop
 same-length c = search needs
 
 returns : tie.Need-returns Inv-loop μ-loop
-returns c = tt
+returns c = search needs
 
-pub put-samples-spec : {M : Type 1} → statement M
-put-samples-spec =
+pub put-halves-spec : {M : Type 1} → statement M
+put-halves-spec =
     tie.close
     (tie.spec
     Inv-loop
     μ-loop
     loop-holds
     mul-write16
+    add-write16
     mul-to-bits16
     shared-slice-copy-out-to-bits16
     to-bits16-requires
