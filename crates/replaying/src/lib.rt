@@ -1,6 +1,6 @@
 // Test only: what the programs that replay the oracle's answers share. Floats go in and out by their bits, samples by their bytes. Nothing
 // is refused: each function asks for the room that it fills.
-ghost use Prim.Native.Nat.{_+_, _*_, _≤_};
+ghost use Prim.Native.Nat.{_+_, _*_, _≤_, _<_};
 ghost use lib.ListN.{length};
 
 // The float of 32 bits: those above an infinity's, with the sign's bit dropped, are not a number.
@@ -57,12 +57,19 @@ pub fn put_halves(values: &[i16], bytes: &mut [u8], at: usize)
     }
 }
 
-// Writes samples to standard output.
-pub fn write_samples(samples: &[i16]) -> bool
-    requires { ⌜ length (now samples) ≤ 65537 ⌝ }
+fn wide(byte: u8) -> u64
+    ensures { λ r. ⌜ r < 256 ⌝ }
 {
-    let mut bytes = [0u8; 131074];
-    put_halves(samples, &mut bytes, 0);
-    let end = samples.len() * 2;
-    io::write_all(1, &bytes[0..end])
+    byte as u64
+}
+
+// A sum in which every byte and its place count.
+pub fn sum(bytes: &[u8]) -> u32 {
+    let mut total = 0u64;
+    let mut i = 0;
+    while i < bytes.len() {
+        total = (total * 31 + wide(bytes[i])) % 0x1_0000_0000;
+        i += 1;
+    }
+    total as u32
 }

@@ -122,9 +122,8 @@ pub fn present(window: &[u8], base: u32, address: u32, count: u32) -> bool {
 pub fn physical(window: &[u8], base: u32, address: u32, count: u32) -> Vec<u8> {
     assert!(base as u64 + window.len() as u64 <= 1 << 32);
     let mut out = vec![0; window.len()];
-    let length = unsafe {
-        yinzhor_physical(window.as_ptr(), window.len(), base, address, count, out.as_mut_ptr(), out.len())
-    };
+    let length =
+        unsafe { yinzhor_physical(window.as_ptr(), window.len(), base, address, count, out.as_mut_ptr(), out.len()) };
     assert!(length <= out.len(), "a part longer than the window");
     out.truncate(length);
     out

@@ -1,5 +1,5 @@
 //! decodes with the port what standard input holds, in the form of the crate
-//! replay_adpcm: each record has 16 coefficients, the history, the count and
+//! decode.rs of the crate replay: each record has 16 coefficients, the history, the count and
 //! the frames, each answer the samples and the history.
 
 use std::io::{self, Read, Write};

@@ -1,7 +1,8 @@
 //! writes what the oracle answers to fixed inputs, for programs that replay
 //! it without Rust: `record REPOSITORY` writes stdin and stdout of the crates
-//! replay_memory, replay_adpcm, replay_listing, replay_numbers, replay_mixer,
-//! replay_filters and run_config. every number is little-endian.
+//! replay, replay_filters and run_config. every number is little-endian.
+//! document 01's cases by hand are among the inputs, and an answer that is
+//! not document 01's stops the recording.
 
 mod adpcm;
 mod listing;
@@ -21,7 +22,29 @@ struct Replay {
     stdout: Vec<u8>,
 }
 
+/// kinds of a job of the crate replay.
+const NUMBER: u32 = 0;
+const DECODE: u32 = 1;
+const LISTING: u32 = 2;
+const MIXER: u32 = 3;
+
 impl Replay {
+    /// a job of the crate replay.
+    fn job(&mut self, kind: u32, part: &[u8], answer: &[u8]) {
+        self.stdin.extend(kind.to_le_bytes());
+        self.stdin.extend((part.len() as u32).to_le_bytes());
+        self.stdin.extend(part);
+        self.stdout.extend(answer);
+    }
+
+    /// a call of a function on numbers alone, by its kind in the crate
+    /// number_jobs.
+    fn number(&mut self, kind: u32, operands: [u64; 3], answer: u64) {
+        let words = operands.iter().flat_map(|word| word.to_le_bytes());
+        let part: Vec<u8> = kind.to_le_bytes().into_iter().chain(words).collect();
+        self.job(NUMBER, &part, &answer.to_le_bytes());
+    }
+
     fn write(&self, folder: &Path) -> io::Result<()> {
         fs::create_dir_all(folder)?;
         fs::write(folder.join("stdin"), &self.stdin)?;
@@ -32,11 +55,13 @@ impl Replay {
 fn main() -> io::Result<()> {
     let repository = env::args().nth(1).expect("record REPOSITORY");
     let crates = Path::new(&repository).join("crates");
-    memory::memory(&mut Random::new(1)).write(&crates.join("replay_memory"))?;
-    adpcm::adpcm(&mut Random::new(2)).write(&crates.join("replay_adpcm"))?;
-    numbers::numbers(&mut Random::new(3)).write(&crates.join("replay_numbers"))?;
-    mixer::mixer(&mut Random::new(4)).write(&crates.join("replay_mixer"))?;
+    let mut replay = Replay::default();
+    memory::memory(&mut Random::new(1), &mut replay);
+    adpcm::adpcm(&mut Random::new(2), &mut replay);
+    numbers::numbers(&mut Random::new(3), &mut replay);
+    mixer::mixer(&mut Random::new(4), &mut replay);
+    listing::listing(&mut Random::new(7), &mut replay);
+    replay.write(&crates.join("replay"))?;
     voices::config(&mut Random::new(5)).write(&crates.join("run_config"))?;
-    voices::filters(&mut Random::new(6)).write(&crates.join("replay_filters"))?;
-    listing::listing(&mut Random::new(7)).write(&crates.join("replay_listing"))
+    voices::filters(&mut Random::new(6)).write(&crates.join("replay_filters"))
 }

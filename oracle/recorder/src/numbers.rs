@@ -1,74 +1,79 @@
-//! casts, gains, rates and what mixing does with them.
+//! casts, gains, rates, tests of numbers and what mixing does with them.
 
-use cases::floats::{doubles, gain, sample, single, singles, whole, wholes};
+use cases::floats::{bits, double, doubles, gain, sample, single, singles, whole, wholes};
 use cases::{Random, SAMPLES};
 use zakuro_core::memory::Memory;
 use zakuro_core::services::dsp_voices::{FRAME_SAMPLES, probe_add, probe_fade, probe_gain_and_rate, probe_lerp};
 
 use crate::Replay;
 
-/// two singles whose sum as doubles is x, or close to it where x has too many
-/// digits or is too small or too large for that.
-fn split(x: f64) -> (f32, f32) {
-    let high = x as f32;
-    (high, if high.is_infinite() { 0.0 } else { (x - high as f64) as f32 })
+/// kinds of the crate number_jobs.
+const SINGLE_TO_I32: u32 = 4;
+const DOUBLE_TO_I16: u32 = 5;
+const DOUBLE_TO_U32: u32 = 6;
+const I32_TO_SINGLE: u32 = 7;
+const GAIN: u32 = 8;
+const RATE: u32 = 9;
+const FINITE: u32 = 10;
+const IS_RATE: u32 = 11;
+const IS_FRACTION: u32 = 12;
+const PRODUCT: u32 = 13;
+const FADE: u32 = 14;
+const BETWEEN: u32 = 15;
+
+pub fn numbers(random: &mut Random, replay: &mut Replay) {
+    floats(random, replay);
+    products(random, replay);
+    fades(random, replay);
+    between(random, replay);
 }
 
-/// records of 16 bytes: the kind, then words a, b, c, zero where not named.
-/// the answer has 4 bytes, those of a signed number or of a single's bits.
-/// no single is not a number, but in kinds 4, 5 and 9.
-/// kind 0: the single a; to i32.
-/// kind 1, 2: the sum of the singles a and b as doubles; to i16, to u32.
-/// kind 3: a signed; to a single.
-/// kind 4: the bits a; the gain.
-/// kind 5, 9: the bits a; the low and the high word of the rate's bits.
-/// kind 6: the gain a, the sample b; what it adds.
-/// kind 7: fading from a to b, c = 65536 times the place plus the sample;
-/// what it adds.
-/// kind 8: a = the first sample plus 65536 times the second, the fraction b
-/// as a single; the sample between.
-pub fn numbers(random: &mut Random) -> Replay {
-    let mut replay = Replay::default();
-    let mut record = |kind: u32, [a, b, c]: [u32; 3], answer: u32| {
-        for word in [kind, a, b, c] {
-            replay.stdin.extend(word.to_le_bytes());
-        }
-        replay.stdout.extend(answer.to_le_bytes());
-    };
+fn floats(random: &mut Random, replay: &mut Replay) {
     let mut memory = Memory { regions: [vec![0; 192], Vec::new()], ..Memory::default() };
+    for x in singles().into_iter().chain((0..40).map(|_| single(random))) {
+        let operands = [x.to_bits().into(), 0, 0];
+        let (gain, rate) = probe_gain_and_rate(&mut memory, x.to_bits());
+        replay.number(SINGLE_TO_I32, operands, (x as i32 as u32).into());
+        replay.number(GAIN, operands, gain.to_bits().into());
+        replay.number(RATE, operands, rate.to_bits());
+        replay.number(FINITE, operands, x.is_finite().into());
+    }
+    for x in doubles().into_iter().chain((0..40).map(|_| double(random))) {
+        let operands = [x.to_bits(), 0, 0];
+        replay.number(DOUBLE_TO_I16, operands, (x as i16 as u16).into());
+        replay.number(DOUBLE_TO_U32, operands, (x as u32).into());
+        replay.number(IS_RATE, operands, (x > 0.0 && x.is_finite()).into());
+        replay.number(IS_FRACTION, operands, (x >= 0.0).into());
+    }
+    assert_eq!(16_777_217 as f32, 16_777_216.0);
+    for n in [16_777_217].into_iter().chain(wholes()).chain((0..40).map(|_| whole(random))) {
+        replay.number(I32_TO_SINGLE, [n as u32 as u64, 0, 0], bits(n as f32).into());
+    }
+}
 
-    let random_singles: Vec<_> = (0..40).map(|_| single(random)).collect();
-    for x in singles().into_iter().chain(random_singles) {
-        let bits = x.to_bits();
-        if !x.is_nan() {
-            record(0, [bits, 0, 0], x as i32 as u32);
-        }
-        let (gain, rate) = probe_gain_and_rate(&mut memory, bits);
-        record(4, [bits, 0, 0], gain.to_bits());
-        record(5, [bits, 0, 0], rate.to_bits() as u32);
-        record(9, [bits, 0, 0], (rate.to_bits() >> 32) as u32);
-    }
-    for (a, b) in doubles().into_iter().filter(|x| !x.is_nan()).map(split) {
-        let x = a as f64 + b as f64;
-        record(1, [a.to_bits(), b.to_bits(), 0], x as i16 as u32);
-        record(2, [a.to_bits(), b.to_bits(), 0], x as u32);
-    }
-    let random_wholes: Vec<_> = (0..40).map(|_| whole(random)).collect();
-    for n in wholes().into_iter().chain(random_wholes) {
-        record(3, [n as u32, 0, 0], (n as f32).to_bits());
-    }
-
+fn products(random: &mut Random, replay: &mut Replay) {
     let mut products = Vec::new();
     for gain in [0.0, -0.0, 1e-40, 0.5, 1.0, -1.0, 16384.0, 16384.002, 65536.0, 65536.01, -3e38, 3e38, f32::INFINITY] {
         products.extend(SAMPLES.map(|sample| (gain, sample)));
     }
     products.extend((0..40).map(|_| (gain(random), sample(random))));
-    for (gain, sample) in products.into_iter().filter(|(gain, _)| !gain.is_nan()) {
+    for (gain, sample) in products {
         let added = probe_add(&[sample; FRAME_SAMPLES], gain)[0];
-        record(6, [gain.to_bits(), sample as u16 as u32, 0], added as u32);
+        replay.number(PRODUCT, [gain.to_bits().into(), (sample as u16).into(), 0], (added as u32).into());
     }
+}
 
-    let mut fades = Vec::new();
+fn fades(random: &mut Random, replay: &mut Replay) {
+    let mut fade = |from: f32, to: f32, i: usize, sample: i16| {
+        let added = probe_fade(&[sample; FRAME_SAMPLES], from, to)[i];
+        let c = (i as u64) << 16 | sample as u16 as u64;
+        replay.number(FADE, [from.to_bits().into(), to.to_bits().into(), c], (added as u32).into());
+        added
+    };
+    for i in (0..FRAME_SAMPLES).step_by(3) {
+        assert_eq!(fade(-3e38, 3e38, i, 0), 0);
+    }
+    assert_eq!(fade(-3e38, 3e38, FRAME_SAMPLES - 1, 1), 2_147_483_647);
     for (from, to) in [
         (-3e38, 3e38),
         (0.0, 1.0),
@@ -84,26 +89,31 @@ pub fn numbers(random: &mut Random) -> Replay {
         (f32::INFINITY, f32::NEG_INFINITY),
     ] {
         for i in [0, 1, 80, 158, 159] {
-            fades.extend([0, 1, -32768].map(|sample| (from, to, i, sample)));
+            for sample in [0, 1, -32768] {
+                fade(from, to, i, sample);
+            }
         }
     }
-    fades.extend((0..40).map(|_| (gain(random), gain(random), random.below(FRAME_SAMPLES), sample(random))));
-    for (from, to, i, sample) in fades.into_iter().filter(|(from, to, ..)| !from.is_nan() && !to.is_nan()) {
-        let added = probe_fade(&[sample; FRAME_SAMPLES], from, to)[i];
-        record(7, [from.to_bits(), to.to_bits(), (i as u32) << 16 | sample as u16 as u32], added as u32);
+    for _ in 0..40 {
+        fade(gain(random), gain(random), random.below(FRAME_SAMPLES), sample(random));
     }
+}
 
-    let mut between = Vec::new();
-    for fraction in [0.0, -0.0, 1e-40, 0.5, 0.99999994, 1.0, 1.5, 32768.0, 3e38, f32::INFINITY] {
-        between.extend(
-            [(0, -3), (0, 100), (-1, 0), (5, 5), (32766, 32767), (-32768, 32767), (32767, -32768)]
-                .map(|(a, b)| (a, b, fraction)),
-        );
+fn between(random: &mut Random, replay: &mut Replay) {
+    let mut between = |a: i16, b: i16, fraction: f64| {
+        let [sample, _] = probe_lerp([a; 2], [b; 2], fraction);
+        let operands = [(a as u16).into(), (b as u16).into(), fraction.to_bits()];
+        replay.number(BETWEEN, operands, (sample as u16).into());
+        sample
+    };
+    assert_eq!(between(0, -3, 0.5), -1);
+    assert_eq!(between(0, 100, 1.5), 150);
+    for fraction in [0.0, -0.0, 1e-310, 0.5, 1.0 - f64::EPSILON, 1.0, 1.5, 32768.0, 3e38, f64::INFINITY, f64::NAN] {
+        for (a, b) in [(0, -3), (0, 100), (-1, 0), (5, 5), (32766, 32767), (-32768, 32767), (32767, -32768)] {
+            between(a, b, fraction);
+        }
     }
-    between.extend((0..60).map(|i| (sample(random), sample(random), i as f32 / 59.0)));
-    for (a, b, fraction) in between {
-        let [sample, _] = probe_lerp([a; 2], [b; 2], fraction as f64);
-        record(8, [(b as u16 as u32) << 16 | a as u16 as u32, fraction.to_bits(), 0], sample as u32);
+    for i in 0..60 {
+        between(sample(random), sample(random), i as f64 / 59.0);
     }
-    replay
 }
