@@ -171,10 +171,10 @@ fn call(part: &[u8], many: usize, first: &mut [u8], second: &mut [u8]) -> Mixed
     )
 }
 
-fn put_frame(frame: &[i16; 320], out: &mut [u8])
-    requires { ⌜ 668 ≤ length (now out) ⌝ }
+pub fn put_frame(frame: &[i16; 320], bytes: &mut [u8], at: usize)
+    requires { ⌜ at + 640 ≤ length (now bytes) ⌝ }
 {
-    replaying::put_halves(frame, out, 20);
+    replaying::put_halves(frame, bytes, at);
 }
 
 fn put_mixed(mixed: Mixed, sums: [u32; 2], out: &mut [u8])
@@ -185,7 +185,7 @@ fn put_mixed(mixed: Mixed, sums: [u32; 2], out: &mut [u8])
     let state = mixed.mixer;
     put_state(state, out, 4);
     let frame = mixed.frame;
-    put_frame(&frame, out);
+    put_frame(&frame, out, 20);
     little::write32(out, 660, sums[0]);
     little::write32(out, 664, sums[1]);
 }

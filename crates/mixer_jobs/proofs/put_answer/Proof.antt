@@ -46,7 +46,9 @@ sum-of-requires-2 : tie.Need-sum-of-requires-2
 sum-of-requires-2 c κs = search needs
 
 put-mixed-requires : tie.Need-put-mixed-requires
-put-mixed-requires c κs = c .before .before .before .before .before .before .before .before .before .before .before .before .before .before .before .before .before .pre .1 .1 .1 .1
+put-mixed-requires c κs =
+    let s = c .before .before .before .before .before .before .before .before .before .before .before .before in
+    s .before .before .before .before .before .pre .1 .1 .1 .1
 
 same-length : tie.Need-same-length
 same-length c = search needs
