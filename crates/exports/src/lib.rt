@@ -1,13 +1,10 @@
 // The port's functions under C names, for the comparisons with the Rust. Test only: each takes plain numbers and slices, calls the function
 // that it is named after, and promises nothing of its own. Those on numbers alone go by `yinzhor_number`, a kind and its operands.
 ghost use mathlib.Core.Path.{_≡_};
-ghost use Prim.Native.Nat.{_+_, _≤_, _<_};
+ghost use Prim.Native.Nat.{_+_, _≤_};
 ghost use lib.ListN.{length};
 ghost use Rattle.listing.specs.Sizes.{inputRoom};
 use adpcm::History;
-use filters::state::BiquadFilter;
-use filters::state::Filters;
-use filters::state::SimpleFilter;
 use listing::sizes::OUTPUT_ROOM;
 
 #[no_mangle]
@@ -122,98 +119,4 @@ pub extern "C" fn yinzhor_mixer_tick(
     let after = mixed.mixer;
     mixer_jobs::put_state(after, state, 0);
     mixed.number
-}
-
-fn simple_of(values: &[i32]) -> SimpleFilter
-    requires { ⌜ length (now values) ≡ 4 ⌝ }
-{
-    let y1 = [values[2], values[3]];
-    SimpleFilter {
-        b0: values[0],
-        a1: values[1],
-        y1,
-    }
-}
-
-fn biquad_of(values: &[i32]) -> BiquadFilter
-    requires { ⌜ length (now values) ≡ 13 ⌝ }
-{
-    let b = [values[0], values[1], values[2]];
-    let a = [values[3], values[4]];
-    let x = [values[5], values[6], values[7], values[8]];
-    let y = [values[9], values[10], values[11], values[12]];
-    BiquadFilter { b, a, x, y }
-}
-
-fn put_number(values: &mut [i32], at: usize, value: i32)
-    requires { ⌜ at < length (now values) ⌝ }
-{
-    values[at] = value;
-}
-
-fn put_simple(f: SimpleFilter, values: &mut [i32])
-    requires { ⌜ length (now values) ≡ 4 ⌝ }
-{
-    let b0 = f.b0;
-    let a1 = f.a1;
-    let y1 = f.y1;
-    put_number(values, 0, b0);
-    put_number(values, 1, a1);
-    put_number(values, 2, y1[0]);
-    put_number(values, 3, y1[1]);
-}
-
-// What a filter keeps of a signal, the newer pair first.
-fn put_pairs(pairs: &[i32; 4], values: &mut [i32], at: usize)
-    requires { ⌜ at + 4 ≤ length (now values) ⌝ }
-{
-    put_number(values, at, pairs[0]);
-    put_number(values, at + 1, pairs[1]);
-    put_number(values, at + 2, pairs[2]);
-    put_number(values, at + 3, pairs[3]);
-}
-
-fn put_biquad(f: BiquadFilter, values: &mut [i32])
-    requires { ⌜ length (now values) ≡ 13 ⌝ }
-{
-    let b = f.b;
-    let a = f.a;
-    let x = f.x;
-    let y = f.y;
-    put_number(values, 0, b[0]);
-    put_number(values, 1, b[1]);
-    put_number(values, 2, b[2]);
-    put_number(values, 3, a[0]);
-    put_number(values, 4, a[1]);
-    put_pairs(&x, values, 5);
-    put_pairs(&y, values, 9);
-}
-
-// Nothing is done, and false comes back, where the filters are not such as a well-formed record has.
-#[no_mangle]
-pub extern "C" fn yinzhor_filter(
-    marks: &[u8],
-    simple: &mut [i32],
-    biquad: &mut [i32],
-    samples: &mut [i16],
-) -> bool
-    requires { ⌜ (length (now marks) ≡ 2) × ((length (now simple) ≡ 4) × (length (now biquad) ≡ 13)) ⌝ }
-{
-    let first = simple_of(simple);
-    let second = biquad_of(biquad);
-    let given = Filters {
-        has_simple: marks[0] != 0,
-        simple: first,
-        has_biquad: marks[1] != 0,
-        biquad: second,
-    };
-    if !filters::range::filters_in_range(given) {
-        return false;
-    }
-    let after = filters::process::process(given, samples);
-    let first = after.simple;
-    let second = after.biquad;
-    put_simple(first, simple);
-    put_biquad(second, biquad);
-    true
 }
