@@ -7,8 +7,8 @@
 //  64  the mixer's configuration, 44 bytes
 // 108  61 words, which the intermediate samples repeat
 // 352  61 words, which the mixes repeat
-// Configuration and intermediate samples are put at their places in region 0, or in region 1 if the region number is not 0, each if it ends
-// within the region. The answer has 668 bytes:
+// A region is the first of 65,537 bytes. Configuration and intermediate samples are put at their places in those of region 0, or of region 1
+// if the region number is not 0, each if it ends within them. The answer has 668 bytes:
 //   0  the number, three zeros
 //   4  the state
 //  20  the frame
@@ -55,20 +55,17 @@ pub fn state_of(bytes: &[u8]) -> Mixer
     }
 }
 
-fn is_mono(output: Output) -> u8 {
-    match output {
-        Output::Mono => 1,
-        Output::Stereo => 0,
-    }
-}
-
 pub fn put_state(state: Mixer, bytes: &mut [u8], at: usize)
     requires { ⌜ at + 16 ≤ length (now bytes) ⌝ }
 {
     let volume = state.volume;
     let aux = state.aux;
     let output = state.output;
-    let switches = [aux[0] as u8, aux[1] as u8, is_mono(output), 0];
+    let mono = match output {
+        Output::Mono => 1,
+        Output::Stereo => 0,
+    };
+    let switches = [aux[0] as u8, aux[1] as u8, mono, 0];
     little::write32(bytes, at, replaying::bits32(volume[0]));
     little::write32(bytes, at + 4, replaying::bits32(volume[1]));
     little::write32(bytes, at + 8, replaying::bits32(volume[2]));
@@ -101,56 +98,40 @@ fn mixes_of(part: &[u8]) -> [i32; MOST_VALUES]
     values
 }
 
-// Fills bytes with words over and over.
-fn repeat(words: &[u8], bytes: &mut [u8])
-    requires { ⌜ length (now words) ≡ 244 ⌝ }
+fn put_configuration(part: &[u8], bytes: &mut [u8; MOST_BYTES])
+    requires { ⌜ length (now part) ≡ 596 ⌝ }
 {
+    let at = read32(part, 32) as usize;
+    if at > MOST_BYTES - CONFIGURATION {
+        return;
+    }
+    little::put(bytes, at, &part[64..108]);
+}
+
+fn put_intermediate(part: &[u8], bytes: &mut [u8; MOST_BYTES])
+    requires { ⌜ length (now part) ≡ 596 ⌝ }
+{
+    let at = read32(part, 40) as usize;
+    if at > MOST_BYTES - INTERMEDIATE {
+        return;
+    }
     let mut i = 0;
-    while i < bytes.len() {
-        bytes[i] = words[i % (WORDS * 4)];
+    while i < INTERMEDIATE {
+        bytes[at + i] = part[108 + i % (WORDS * 4)];
         i += 1;
     }
 }
 
-fn put_configuration(part: &[u8], region: &mut [u8])
+// A region's bytes, and what is behind it.
+fn region_of(part: &[u8], fill: u8, read: bool) -> [u8; MOST_BYTES]
     requires { ⌜ length (now part) ≡ 596 ⌝ }
-{
-    let at = read32(part, 32) as usize;
-    if at + CONFIGURATION > region.len() {
-        return;
-    }
-    little::put(region, at, &part[64..108]);
-}
-
-fn put_intermediate(part: &[u8], region: &mut [u8])
-    requires { ⌜ length (now part) ≡ 596 ⌝ }
-{
-    let at = read32(part, 40) as usize;
-    let end = at + INTERMEDIATE;
-    if end > region.len() {
-        return;
-    }
-    repeat(&part[108..352], &mut region[at..end]);
-}
-
-// Puts both at their places, if the region is the one read.
-fn prepare(part: &[u8], read: bool, region: &mut [u8])
-    requires { ⌜ length (now part) ≡ 596 ⌝ }
-{
-    if !read {
-        return;
-    }
-    put_configuration(part, region);
-    put_intermediate(part, region);
-}
-
-// A region of so many bytes, and what is behind it.
-fn region_of(part: &[u8], fill: u8, size: usize, read: bool) -> [u8; MOST_BYTES]
-    requires { ⌜ length (now part) ≡ 596 ⌝ }
-    requires { ⌜ size ≤ 65537 ⌝ }
 {
     let mut bytes = [fill; MOST_BYTES];
-    prepare(part, read, &mut bytes[0..size]);
+    if !read {
+        return bytes;
+    }
+    put_configuration(part, &mut bytes);
+    put_intermediate(part, &mut bytes);
     bytes
 }
 
@@ -208,8 +189,8 @@ fn put_answer(part: &[u8], one: usize, two: usize, many: usize, out: &mut [u8])
     requires { ⌜ 668 ≤ length (now out) ⌝ }
 {
     let read = read32(part, 56);
-    let mut first = region_of(part, part[60], one, read == 0);
-    let mut second = region_of(part, part[61], two, read != 0);
+    let mut first = region_of(part, part[60], read == 0);
+    let mut second = region_of(part, part[61], read != 0);
     let mixed = call(part, many, &mut first[0..one], &mut second[0..two]);
     let sums = [sum_of(&first, one), sum_of(&second, two)];
     put_mixed(mixed, sums, out);

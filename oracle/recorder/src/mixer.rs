@@ -80,9 +80,8 @@ impl Call {
 
     /// the frame that the part means.
     fn frame(&self) -> Mixing {
-        let regions = [0, 1].map(|i| vec![self.fills[i]; self.lengths[i]]);
-        let mut frame = Mixing::new(self.offsets, regions, self.read);
-        let region = &mut frame.memory.regions[(self.read != 0) as usize];
+        let mut regions = self.fills.map(|fill| vec![fill; LONGEST + 1]);
+        let region = &mut regions[(self.read != 0) as usize];
         let intermediate: Vec<u8> = self.intermediate.iter().copied().cycle().take(SIZES[6] as usize).collect();
         for (place, bytes) in [(4, &self.configuration), (6, &intermediate)] {
             let at = self.offsets[place] as usize;
@@ -90,6 +89,10 @@ impl Call {
                 region[at..at + bytes.len()].copy_from_slice(bytes);
             }
         }
+        for (region, length) in regions.iter_mut().zip(self.lengths) {
+            region.truncate(length);
+        }
+        let mut frame = Mixing::new(self.offsets, regions, self.read);
         (frame.volume, frame.switches) = (self.volume, self.switches);
         for (i, value) in frame.mixes.as_flattened_mut().as_flattened_mut().iter_mut().enumerate() {
             *value = self.mixes[i % WORDS];
