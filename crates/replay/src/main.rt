@@ -1,30 +1,9 @@
 // Replays a fixed list of the oracle's answers. Standard input holds jobs: a word that says a kind, a word that says how many bytes follow,
-// and these bytes, the job's part; the answer to each goes out. Words have 32 bits; every number is little-endian. The kinds:
-//   0  a call of a function on numbers alone (number.rt)
-//   1  an ADPCM decode (decode.rt)
-//   2  a decode listing (listed.rt)
-//   3  a call of the mixer (crate mixer_jobs)
-// A part longer than 37,494 bytes, another kind, or a part that has not its kind's form ends the program. oracle/record wrote the list.
-mod decode;
-mod listed;
-mod number;
-mod sizes;
-
+// and these bytes, the job's part. The crate jobs says what the kinds are and what their parts; the answer to each goes out. A part longer
+// than 37,494 bytes, or one that has no answer, ends the program. oracle/record wrote the list.
 ghost use Prim.Native.Nat.{_≤_};
-use listing::sizes::LONGEST;
-use sizes::ROOM;
-
-fn answer(kind: u32, part: &[u8], out: &mut [u8; ROOM]) -> usize
-    ensures { λ r. ⌜ r ≤ 131074 ⌝ }
-{
-    match kind {
-        0 => number::answer(part, out),
-        1 => decode::answer(part, out),
-        2 => listed::answer(part, out),
-        3 => mixer_jobs::answer(part, out),
-        _ => 0,
-    }
-}
+use jobs::sizes::LONGEST_PART;
+use jobs::sizes::ROOM;
 
 fn write(out: &[u8; ROOM], n: usize) -> bool
     requires { ⌜ n ≤ 131074 ⌝ }
@@ -40,16 +19,16 @@ fn job() -> bool {
         return false;
     }
     let size = little::read32(&head, 4) as usize;
-    if size > LONGEST {
+    if size > LONGEST_PART {
         return false;
     }
-    let mut space = [0u8; LONGEST];
+    let mut space = [0u8; LONGEST_PART];
     let part: &mut [u8] = &mut space[0..size];
     if io::read_full(0, part) != size {
         return false;
     }
     let mut out = [0u8; ROOM];
-    let n = answer(little::read32(&head, 0), part, &mut out);
+    let n = jobs::answer(little::read32(&head, 0), part, &mut out);
     n > 0 && write(&out, n)
 }
 

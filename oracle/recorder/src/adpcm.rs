@@ -5,7 +5,7 @@ use zakuro_core::services::dsp_voices::probe_decode;
 
 use crate::{DECODE, Replay};
 
-/// jobs as the crate replay has them in decode.rs.
+/// jobs as the crate jobs has them in decode.rs.
 pub fn adpcm(random: &mut Random, replay: &mut Replay) {
     for (case, samples) in Decode::by_hand() {
         assert_eq!(decoded(&case).0, samples, "{case:?}");

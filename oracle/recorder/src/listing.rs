@@ -5,7 +5,7 @@ use cases::{Random, sum};
 
 use crate::{LISTING, Replay};
 
-/// jobs as the crate replay has them in listed.rs.
+/// jobs as the crate jobs has them in listed.rs.
 pub fn listing(random: &mut Random, replay: &mut Replay) {
     for (count, length) in edges() {
         let seed = random.word() as u16;

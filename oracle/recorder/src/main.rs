@@ -22,14 +22,14 @@ struct Replay {
     stdout: Vec<u8>,
 }
 
-/// kinds of a job of the crate replay.
+/// kinds of a job, as the crate jobs has them.
 const NUMBER: u32 = 0;
 const DECODE: u32 = 1;
 const LISTING: u32 = 2;
 const MIXER: u32 = 3;
 
 impl Replay {
-    /// a job of the crate replay.
+    /// a job of the program replay.
     fn job(&mut self, kind: u32, part: &[u8], answer: &[u8]) {
         self.stdin.extend(kind.to_le_bytes());
         self.stdin.extend((part.len() as u32).to_le_bytes());

@@ -1,9 +1,9 @@
--- `replay::listed::list` is safe: the listing lies within the output. Assumes nothing.
+-- `jobs::listed::list` is safe: the listing lies within the output. Assumes nothing.
 use mathlib.Core.Path.{sym}
 use lib.Seq.{length-take-le}
 use borrow.Author.Needs.{needs}
-use Rattle.replay.proofs.listed.list.Statement.{statement}
-use Rattle.replay.proofs.listed.list.Tie as tie
+use Rattle.jobs.proofs.listed.list.Statement.{statement}
+use Rattle.jobs.proofs.listed.list.Tie as tie
 
 list-read-requires : tie.Need-list-read-requires
 list-read-requires c κs = search needs

@@ -1,9 +1,9 @@
--- `replay::listed::make_frames` is safe: the state has 16 bits. Assumes nothing.
+-- `jobs::listed::make_frames` is safe: the state has 16 bits. Assumes nothing.
 use Prim.Native.Nat.{_-_, _<_}
 use Rattle.listing.specs.Sizes.{inputRoom}
 use borrow.Author.Needs.{needs}
-use Rattle.replay.proofs.listed.make_frames.Statement.{statement}
-use Rattle.replay.proofs.listed.make_frames.Tie as tie
+use Rattle.jobs.proofs.listed.make_frames.Statement.{statement}
+use Rattle.jobs.proofs.listed.make_frames.Tie as tie
 
 abbrev Inv-loop : tie.InvT-loop
 Inv-loop seed buffer₀ state₀ i₀ buffer state i = state < 65536
