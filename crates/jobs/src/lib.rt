@@ -1,6 +1,6 @@
-// Test only: what the replay program answers, bytes to bytes. `answer` takes a job's kind and its part, puts the answer at the output's start
-// and gives its length, which is 0 where there is no such kind or the part has not its kind's form. Words have 32 bits; every number is
-// little-endian. The kinds:
+// Test only: what the replay program answers, bytes to bytes. `answer` takes a job's kind and its part, puts the answer at the output's
+// start and gives its length, which is 0 where there is no such kind or the part has not its kind's form. Words have 32 bits; every number
+// is little-endian. The kinds:
 //   0  a call of a function on numbers alone (number.rt)
 //   1  an ADPCM decode (decode.rt)
 //   2  a decode listing (listed.rt)

@@ -1,6 +1,6 @@
-// A decode listing. The part has 44 bytes: the length of an input, a word; a seed, 16 bits; a header of 38 bytes. The input is the header and
-// bytes made by a rule from the seed, cut to the length. The answer has the listing's length and a sum over all of its bytes, words, and the
-// last of it, at most 1,024 bytes.
+// A decode listing. The part has 44 bytes: the length of an input, a word; a seed, 16 bits; a header of 38 bytes. The input is the header
+// and bytes made by a rule from the seed, cut to the length. The answer has the listing's length and a sum over all of its bytes, words,
+// and the last of it, at most 1,024 bytes.
 ghost use Prim.Native.Nat.{_≤_};
 ghost use lib.ListN.{length};
 ghost use Rattle.listing.specs.Sizes.{inputRoom};

@@ -1,5 +1,5 @@
-// A call of a function on numbers alone. The part has 28 bytes: a number's kind as number_jobs has it, a word; its operands, three numbers of
-// 64 bits. The answer is a number of 64 bits.
+// A call of a function on numbers alone. The part has 28 bytes: a number's kind as number_jobs has it, a word; its operands, three numbers
+// of 64 bits. The answer is a number of 64 bits.
 ghost use Prim.Native.Nat.{_+_, _≤_};
 ghost use lib.ListN.{length};
 use crate::sizes::ROOM;

@@ -7,8 +7,8 @@
 //  64  the mixer's configuration, 44 bytes
 // 108  61 words, which the intermediate samples repeat
 // 352  61 words, which the mixes repeat
-// A region is the first of 65,537 bytes. Configuration and intermediate samples are put at their places in those of region 0, or of region 1
-// if the region number is not 0, each if it ends within them. The answer has 668 bytes:
+// A region is the first of 65,537 bytes. Configuration and intermediate samples are put at their places in those of region 0, or of
+// region 1 if the region number is not 0, each if it ends within them. The answer has 668 bytes:
 //   0  the number, three zeros
 //   4  the state
 //  20  the frame
