@@ -2,9 +2,9 @@
 ghost use mathlib.Core.Path.{_≡_};
 ghost use Prim.Native.Nat.{_+_, _≤_, _<_};
 ghost use Rattle.voice.specs.Blank.{places};
-ghost use Rattle.config.specs.Inner.{atMost, listedIn};
+ghost use Rattle.entries.specs.Inner.{atMost, listedIn};
 ghost use Rattle.config.specs.Queue.{pushed, pushedAll};
-use crate::added::Added;
+use entries::added::Added;
 use voice::record::Entry;
 use voice::record::Voice;
 
@@ -20,7 +20,8 @@ pub fn push(v: Voice, e: Entry) -> Voice
 }
 
 pub fn push_entries(v: Voice, a: Added) -> Voice
-    requires { ⌜ (a .count ≤ atMost) × (v .queued + a .count ≤ places) ⌝ }
+    requires { ⌜ a .count ≤ atMost ⌝ }
+    requires { ⌜ v .queued + a .count ≤ places ⌝ }
     ensures { λ r. ⌜ r ≡ pushedAll (listedIn a) v ⌝ }
 {
     let n = a.count;

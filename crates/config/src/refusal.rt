@@ -3,9 +3,9 @@ ghost use mathlib.Core.Path.{_≡_};
 ghost use Prim.Native.Nat.{_≤_};
 ghost use Rattle.voice.specs.Blank.{places};
 ghost use Rattle.voice.specs.Long.{anyTooLong};
-ghost use Rattle.config.specs.Inner.{atMost, listedIn};
+ghost use Rattle.entries.specs.Inner.{atMost, listedIn};
 ghost use Rattle.config.specs.Refusal.{refusalOf};
-use crate::added::Added;
+use entries::added::Added;
 use voice::blank::LIMIT;
 use voice::malformed::too_long;
 
@@ -28,7 +28,8 @@ fn any_too_long(a: Added, lane: usize) -> bool
 
 // The number of the refusal, or 0, of a queue with so many entries to which these would be added.
 pub fn refusal(queued: usize, a: Added, lane: usize) -> u8
-    requires { ⌜ (queued ≤ places) × (a .count ≤ atMost) ⌝ }
+    requires { ⌜ queued ≤ places ⌝ }
+    requires { ⌜ a .count ≤ atMost ⌝ }
     ensures { λ r. ⌜ r ≡ refusalOf queued (listedIn a) lane ⌝ }
 {
     if queued + a.count > LIMIT {

@@ -7,9 +7,9 @@ use lib.ListN.{length, take, getD, length-take}
 use Rattle.voice.specs.Blank.{places, blankEntry}
 use Rattle.voice.specs.declared.record.Entry.{Entry}
 use Rattle.voice.specs.declared.record.Voice.{Voice}
-use Rattle.config.specs.Inner.{listedIn}
+use Rattle.entries.specs.Inner.{listedIn}
 use Rattle.config.specs.Queue.{pushed, pushedAll}
-use Rattle.config.proofs.Listed.{entries-5, first-more}
+use Rattle.entries.proofs.Listed.{entries-5, first-more}
 use Rattle.config.proofs.Pushing.{pushed-none, pushed-last, pushed-queued}
 use Rattle.config.proofs.push.push_entries.Statement.{statement}
 use Rattle.config.proofs.push.push_entries.Tie as tie

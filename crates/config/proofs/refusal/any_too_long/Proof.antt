@@ -7,8 +7,8 @@ use native.Mathlib.Omega.{arith}
 use Rattle.lists.proofs.Some.{some-more}
 use Rattle.voice.specs.Blank.{blankEntry}
 use Rattle.voice.specs.Long.{tooLong, anyTooLong}
-use Rattle.config.specs.Inner.{listedIn}
-use Rattle.config.proofs.Listed.{entries-5}
+use Rattle.entries.specs.Inner.{listedIn}
+use Rattle.entries.proofs.Listed.{entries-5}
 use Rattle.config.proofs.refusal.any_too_long.Statement.{statement}
 use Rattle.config.proofs.refusal.any_too_long.Tie as tie
 

@@ -7,9 +7,9 @@ use borrow.Author.Needs.{needs}
 use borrow.Author.Tests.{lt-ltb, le-ltb}
 use Rattle.lists.proofs.Bools.{cond-yes, cond-no}
 use Rattle.voice.specs.Blank.{limit}
-use Rattle.config.specs.Inner.{listedIn}
+use Rattle.entries.specs.Inner.{listedIn}
 use Rattle.config.specs.Refusal.{refusalOf}
-use Rattle.config.proofs.Listed.{listed-long}
+use Rattle.entries.proofs.Listed.{listed-long}
 use Rattle.config.proofs.refusal.refusal.Statement.{statement}
 use Rattle.config.proofs.refusal.refusal.Tie as tie
 

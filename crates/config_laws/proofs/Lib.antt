@@ -1,0 +1,6 @@
+pub mod Formed
+pub mod Kept
+pub mod Ranged
+pub mod Refused
+pub mod Settled
+pub mod Sized
