@@ -1,3 +1,1 @@
-pub mod Pushing
 pub mod Room
-pub mod Served

@@ -7,8 +7,10 @@ use native.Mathlib.Omega.{arith}
 use lib.Dec.{lit≤}
 use Rattle.voice.specs.Blank.{defaultVoice}
 use Rattle.voice.specs.declared.record.Voice.{Voice}
-use Rattle.settings.specs.Dirty.{flag, FORMAT, «MONO_OR_STEREO», «ADPCM_COEFFICIENTS», «PARTIAL_EMBEDDED_BUFFER», «PARTIAL_RESET», ENABLE, INTERPOLATION, «RATE_MULTIPLIER», GAIN, «SYNC_COUNT», RESET, «EMBEDDED_BUFFER»}
-use Rattle.settings.specs.Steps.{resetStep, partialResetStep, enableStep, syncStep, rateStep, interpolationStep, coefficientsStep, gainStep, filtersStep, formatStep, stereoStep, lengthenStep}
+use Rattle.settings.specs.Dirty.{flag, FORMAT, «MONO_OR_STEREO», «ADPCM_COEFFICIENTS», «PARTIAL_EMBEDDED_BUFFER», «PARTIAL_RESET», ENABLE}
+use Rattle.settings.specs.Dirty.{INTERPOLATION, «RATE_MULTIPLIER», GAIN, «SYNC_COUNT», RESET, «EMBEDDED_BUFFER»}
+use Rattle.settings.specs.Steps.{resetStep, partialResetStep, enableStep, syncStep, rateStep, interpolationStep, coefficientsStep}
+use Rattle.settings.specs.Steps.{gainStep, filtersStep, formatStep, stereoStep, lengthenStep}
 use Rattle.config.specs.Parsed.{inTurn, playSteps, soundSteps, settled}
 
 -- of a record that had n entries queued

@@ -1,3 +1,1 @@
 pub mod Parsed
-pub mod Queue
-pub mod Refusal

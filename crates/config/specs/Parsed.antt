@@ -13,8 +13,8 @@ use Rattle.settings.specs.Steps.{resetStep, partialResetStep, enableStep, syncS
 use Rattle.settings.specs.Steps.{gainStep, filtersStep, formatStep, stereoStep, lengthenStep}
 use Rattle.config.specs.declared.parse.Configured.{Configured}
 use Rattle.entries.specs.Entries.{added}
-use Rattle.config.specs.Refusal.{refusalOf}
-use Rattle.config.specs.Queue.{pushedAll}
+use Rattle.queueing.specs.Refusal.{refusalOf}
+use Rattle.queueing.specs.Queue.{pushedAll}
 
 -- steps taken in turn, the first one first
 abbrev pub inTurn : List (Voice → Voice) → Voice → Voice

@@ -1,8 +1,8 @@
 // The configuration reader.
-use crate::push::push_entries;
-use crate::refusal::refusal;
 use entries::added::to_add;
 use fields::config;
+use queueing::push::push_entries;
+use queueing::refusal::refusal;
 use settings::dirty;
 use settings::dirty::flag;
 use settings::filtering::filters_step;

@@ -17,9 +17,9 @@ use Rattle.settings.specs.Dirty.{dirtyIn}
 use Rattle.config.specs.declared.parse.Configured.{Configured}
 use Rattle.config_laws.specs.Laws.{EachKeeps, WholeKeeps}
 use Rattle.config.specs.Parsed.{inTurn, steps, settled, toAdd, refusal, parsed, configured}
-use Rattle.config.specs.Refusal.{refusalOf}
-use Rattle.config.specs.Queue.{pushed, pushedAll}
-use Rattle.config.proofs.Served.{room-for, none-long}
+use Rattle.queueing.specs.Refusal.{refusalOf}
+use Rattle.queueing.specs.Queue.{pushed, pushedAll}
+use Rattle.queueing.proofs.Served.{room-for, none-long}
 
 module _ (P : Voice → Type 0) where
   pub in-turn : (steps : List (Voice → Voice)) → EachKeeps P steps → (v : Voice) → P v → P (inTurn steps v)

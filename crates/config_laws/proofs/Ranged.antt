@@ -30,18 +30,24 @@ use Rattle.filters.specs.declared.state.BiquadFilter.{BiquadFilter}
 use Rattle.filters.specs.declared.state.Filters.{Filters}
 use Rattle.filters.specs.declared.state.SimpleFilter.{SimpleFilter}
 use Rattle.voice.specs.Blank.{limit, blankHistory, defaultVoice}
-use Rattle.voice.specs.Range.{isByte, unsigned, signed, historyInRange, entryTests, entryInRange, simpleIn32, biquadIn32, rangeTests, inRange}
+use Rattle.voice.specs.Range.{isByte, unsigned, signed, historyInRange, entryTests, entryInRange, simpleIn32, biquadIn32, rangeTests}
+use Rattle.voice.specs.Range.{inRange}
 use Rattle.voice.specs.Set.{set-entry-length}
 use Rattle.voice.specs.declared.record.Entry.{Entry}
 use Rattle.voice.specs.declared.record.Format.{Format}
 use Rattle.voice.specs.declared.record.Voice.{Voice}
-use Rattle.voice.proofs.Range.{unsigned-below, below-unsigned, test-in-range, in-range-test, history-in-range, simple-in-32, biquad-in-32, zero-single, one-double, default-in-range}
-use Rattle.settings.specs.Dirty.{flag, FORMAT, «MONO_OR_STEREO», «ADPCM_COEFFICIENTS», «PARTIAL_EMBEDDED_BUFFER», «PARTIAL_RESET», ENABLE, INTERPOLATION, «RATE_MULTIPLIER», «PLAY_POSITION», «FILTERS_ENABLED», «SIMPLE_FILTER», «BIQUAD_FILTER», GAIN, «SYNC_COUNT», RESET, «EMBEDDED_BUFFER»}
-use Rattle.settings.specs.Steps.{half, resetStep, partialResetStep, enableStep, syncStep, rateStep, interpolationStep, coefficientsStep, gainStep, enabledFilters, simpleFilters, biquadFilters, filtersStep, formatStep, stereoStep, lengthenStep}
+use Rattle.voice.proofs.Range.{unsigned-below, below-unsigned, test-in-range, in-range-test, history-in-range, simple-in-32, biquad-in-32}
+use Rattle.voice.proofs.Range.{zero-single, one-double, default-in-range}
+use Rattle.settings.specs.Dirty.{flag, FORMAT, «MONO_OR_STEREO», «ADPCM_COEFFICIENTS», «PARTIAL_EMBEDDED_BUFFER», «PARTIAL_RESET», ENABLE}
+use Rattle.settings.specs.Dirty.{INTERPOLATION, «RATE_MULTIPLIER», «PLAY_POSITION», «FILTERS_ENABLED», «SIMPLE_FILTER», «BIQUAD_FILTER»}
+use Rattle.settings.specs.Dirty.{GAIN, «SYNC_COUNT», RESET, «EMBEDDED_BUFFER»}
+use Rattle.settings.specs.Steps.{half, resetStep, partialResetStep, enableStep, syncStep, rateStep, interpolationStep, coefficientsStep}
+use Rattle.settings.specs.Steps.{gainStep, enabledFilters, simpleFilters, biquadFilters, filtersStep, formatStep, stereoStep}
+use Rattle.settings.specs.Steps.{lengthenStep}
 use Rattle.entries.specs.Entries.{historyAt, positionIn, embedded, slotEntry}
 use Rattle.config_laws.specs.Laws.{Keeps, KeepsRange}
 use Rattle.config.specs.Parsed.{settled, toAdd}
-use Rattle.config.specs.Queue.{pushed}
+use Rattle.queueing.specs.Queue.{pushed}
 use Rattle.config_laws.proofs.Kept.{whole-keeps}
 use Rattle.config_laws.proofs.Settled.{all-added}
 

@@ -19,14 +19,18 @@ use Rattle.voice.specs.Set.{set-voice-filters}
 use Rattle.voice.specs.declared.record.Entry.{Entry}
 use Rattle.voice.specs.declared.record.Voice.{Voice}
 use Rattle.voice.proofs.Formed.{long-is, is-long}
-use Rattle.settings.specs.Dirty.{dirtyIn, flag, FORMAT, «MONO_OR_STEREO», «ADPCM_COEFFICIENTS», «PARTIAL_EMBEDDED_BUFFER», «PARTIAL_RESET», ENABLE, INTERPOLATION, «RATE_MULTIPLIER», «BUFFER_QUEUE», «FILTERS_ENABLED», «SIMPLE_FILTER», «BIQUAD_FILTER», GAIN, «SYNC_COUNT», RESET, «EMBEDDED_BUFFER»}
-use Rattle.settings.specs.Steps.{resetStep, partialResetStep, enableStep, syncStep, rateStep, interpolationStep, coefficientsStep, gainStep, enabledFilters, simpleFilters, biquadFilters, filtersStep, formatStep, stereoStep, lengthenStep}
+use Rattle.settings.specs.Dirty.{dirtyIn, flag, FORMAT, «MONO_OR_STEREO», «ADPCM_COEFFICIENTS», «PARTIAL_EMBEDDED_BUFFER»}
+use Rattle.settings.specs.Dirty.{«PARTIAL_RESET», ENABLE, INTERPOLATION, «RATE_MULTIPLIER», «BUFFER_QUEUE», «FILTERS_ENABLED»}
+use Rattle.settings.specs.Dirty.{«SIMPLE_FILTER», «BIQUAD_FILTER», GAIN, «SYNC_COUNT», RESET, «EMBEDDED_BUFFER»}
+use Rattle.settings.specs.Steps.{resetStep, partialResetStep, enableStep, syncStep, rateStep, interpolationStep, coefficientsStep}
+use Rattle.settings.specs.Steps.{gainStep, enabledFilters, simpleFilters, biquadFilters, filtersStep, formatStep, stereoStep}
+use Rattle.settings.specs.Steps.{lengthenStep}
 use Rattle.config.specs.declared.parse.Configured.{Configured}
 use Rattle.entries.specs.Entries.{slotCount, embeddedEntries, slotsEntries, added}
 use Rattle.config_laws.specs.Laws.{Keeps, RefusedUntouched, CleanUnchanged, Longer, Exactly, RefusedExactly, kept}
 use Rattle.config.specs.Parsed.{steps, settled, toAdd, refusal, parsed, configured, cleared, bytesAfter}
-use Rattle.config.specs.Refusal.{refusalOf}
-use Rattle.config.specs.Queue.{pushedAll}
+use Rattle.queueing.specs.Refusal.{refusalOf}
+use Rattle.queueing.specs.Queue.{pushedAll}
 use Rattle.config_laws.proofs.Kept.{in-turn}
 use Rattle.config_laws.proofs.Settled.{settled-queued}
 
@@ -203,37 +207,9 @@ module _ (L : ℕ) (es : List Entry) where
   longer-asked : Longer L es → anyTooLong L es ≡ true
   longer-asked l = one-some (tooLong L) (l .entry) es (l .among) (is-long L (l .entry) (l .adpcm) (l .longer))
 
-  exactly-of : (number queued : ℕ) → number ≡ refusalOf queued es L → (count : ℕ) → count ≡ queued + length es → Exactly number es count L
-  unfolding refusalOf
-  exactly-of number queued e count c = by (ltb limit (queued + length es)) (anyTooLong L es) refl refl e
-    where
-      by : (over long : Bool) → ltb limit (queued + length es) ≡ over → anyTooLong L es ≡ long → number ≡ cond over 20 (cond long 21 0)
-          → Exactly number es count L
-      by true long p q e =
-          let over : limit < count = omega (arith, ltb-true limit (queued + length es) p) in
-          record {
-            twenty = (λ _. over, λ _. e);
-            twenty-one = (λ f. absurd (omega arith), λ h. absurd (omega arith));
-            none = (λ f. absurd (omega arith), λ h. absurd (omega arith));
-          }
-      by false true p q e =
-          let room : count ≤ limit = omega (arith, ltb-false limit (queued + length es) p) in
-          record {
-            twenty = (λ f. absurd (omega arith), λ h. absurd (omega arith));
-            twenty-one = (λ _. (room, longer-told q), λ _. e);
-            none = (λ f. absurd (omega arith), λ h. absurd (h .1 (longer-told q)));
-          }
-      by false false p q e =
-          let room : count ≤ limit = omega (arith, ltb-false limit (queued + length es) p) in
-          let short : Longer L es → ⊥ = λ l. clash (sym q ∙ longer-asked l) in
-          record {
-            twenty = (λ f. absurd (omega arith), λ h. absurd (omega arith));
-            twenty-one = (λ f. absurd (omega arith), λ h. absurd (short (h .1)));
-            none = (λ _. (room, short), λ _. e);
-          }
-        where
-          clash : false ≡ true → ⊥
-          clash f = let z : _≡_ {A = ℕ} 0 1 = cc in omega arith
+-- a test does not come out both ways
+clash : false ≡ true → ⊥
+clash f = let z : _≡_ {A = ℕ} 0 1 = cc in omega arith
 
 module _ (bytes cs : List ℕ) (v : Voice) (L : ℕ) where
   number-is : (dirtyIn bytes ≡ 0 → v .queued ≤ limit) → configured bytes cs v L .number ≡ refusal bytes cs v L
@@ -243,7 +219,42 @@ module _ (bytes cs : List ℕ) (v : Voice) (L : ℕ) where
       (λ t. let clean = eqb-true (dirtyIn bytes) 0 t in clean-served bytes clean v cs L (room clean)) refl
 
 pub refused-exactly : RefusedExactly
-unfolding refusal
-refused-exactly bytes cs v L room =
-    exactly-of L (toAdd bytes cs v) (configured bytes cs v L .number) (settled bytes cs v .queued) (number-is bytes cs v L room)
-    (kept bytes v + length (toAdd bytes cs v)) (ap (λ (n : ℕ). n + length (toAdd bytes cs v)) (sym (settled-queued bytes v cs)))
+unfolding refusal refusalOf
+refused-exactly bytes cs v L room = by (ltb limit (queued + length es)) (anyTooLong L es) refl refl (number-is bytes cs v L room)
+  where
+    es : List Entry
+    es = toAdd bytes cs v
+
+    queued : ℕ
+    queued = settled bytes cs v .queued
+
+    number : ℕ
+    number = configured bytes cs v L .number
+
+    count : ℕ
+    count = kept bytes v + length es
+
+    by : (over long : Bool) → ltb limit (queued + length es) ≡ over → anyTooLong L es ≡ long → number ≡ cond over 20 (cond long 21 0)
+        → Exactly number es count L
+    by true long p q e =
+        let over : limit < count = omega (arith, ltb-true limit (queued + length es) p, settled-queued bytes v cs) in
+        record {
+          twenty = (λ _. over, λ _. e);
+          twenty-one = (λ f. absurd (omega arith), λ h. absurd (omega arith));
+          none = (λ f. absurd (omega arith), λ h. absurd (omega arith));
+        }
+    by false true p q e =
+        let room : count ≤ limit = omega (arith, ltb-false limit (queued + length es) p, settled-queued bytes v cs) in
+        record {
+          twenty = (λ f. absurd (omega arith), λ h. absurd (omega arith));
+          twenty-one = (λ _. (room, longer-told L es q), λ _. e);
+          none = (λ f. absurd (omega arith), λ h. absurd (h .1 (longer-told L es q)));
+        }
+    by false false p q e =
+        let room : count ≤ limit = omega (arith, ltb-false limit (queued + length es) p, settled-queued bytes v cs) in
+        let short : Longer L es → ⊥ = λ l. clash (sym q ∙ longer-asked L es l) in
+        record {
+          twenty = (λ f. absurd (omega arith), λ h. absurd (omega arith));
+          twenty-one = (λ f. absurd (omega arith), λ h. absurd (short (h .1)));
+          none = (λ _. (room, short), λ _. e);
+        }

@@ -12,8 +12,10 @@ use Rattle.voice.specs.declared.record.Entry.{Entry}
 use Rattle.voice.specs.declared.record.Format.{Format}
 use Rattle.voice.specs.declared.record.Format.the-variants.{Pcm16}
 use Rattle.voice.specs.declared.record.Voice.{Voice}
-use Rattle.settings.specs.Dirty.{flag, FORMAT, «MONO_OR_STEREO», «ADPCM_COEFFICIENTS», «PARTIAL_EMBEDDED_BUFFER», «PARTIAL_RESET», ENABLE, INTERPOLATION, «RATE_MULTIPLIER», «BUFFER_QUEUE», GAIN, «SYNC_COUNT», RESET, «EMBEDDED_BUFFER»}
-use Rattle.settings.specs.Steps.{formatIn, stereoIn, resetStep, partialResetStep, enableStep, syncStep, rateStep, interpolationStep, coefficientsStep, gainStep, filtersStep, formatStep, stereoStep, lengthenStep}
+use Rattle.settings.specs.Dirty.{flag, FORMAT, «MONO_OR_STEREO», «ADPCM_COEFFICIENTS», «PARTIAL_EMBEDDED_BUFFER», «PARTIAL_RESET», ENABLE}
+use Rattle.settings.specs.Dirty.{INTERPOLATION, «RATE_MULTIPLIER», «BUFFER_QUEUE», GAIN, «SYNC_COUNT», RESET, «EMBEDDED_BUFFER»}
+use Rattle.settings.specs.Steps.{formatIn, stereoIn, resetStep, partialResetStep, enableStep, syncStep, rateStep, interpolationStep}
+use Rattle.settings.specs.Steps.{coefficientsStep, gainStep, filtersStep, formatStep, stereoStep, lengthenStep}
 use Rattle.entries.specs.Entries.{slotCount, slotAdds, embedded, slotEntry, slotsEntries, added}
 use Rattle.config_laws.specs.Laws.{Keeps, kept, formatAfter, stereoAfter, EntriesTake, Taken, EachTakes}
 use Rattle.config.specs.Parsed.{settled, toAdd}
@@ -160,7 +162,9 @@ module _ (P : Entry → Type 0) (bytes : List ℕ) (f : Format) (s : Bool) (firs
       queue false m = absurd (List·Memᴰ·not-nil m)
 
 pub each-takes : EachTakes
-unfolding embedded slotEntry
+unfolding toAdd embedded slotEntry
 each-takes bytes cs v e m =
-    all-added (λ x. Taken bytes v x) bytes (formatAfter bytes v) (stereoAfter bytes v) (record { format = refl; stereo = refl })
-    (λ k. record { format = refl; stereo = refl }) e (subst (λ (es : List Entry). List·Memᴰ e es) (entries-take bytes cs v) m)
+    let u = settled bytes cs v in
+    let s = settled-stands bytes v cs in
+    all-added (λ x. Taken bytes v x) bytes (u .kinds .format) (u .stereo) (record { format = s .format; stereo = s .stereo })
+    (λ k. record { format = s .format; stereo = s .stereo }) e m

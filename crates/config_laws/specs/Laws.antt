@@ -18,7 +18,7 @@ use Rattle.settings.specs.Dirty.{dirtyIn, flag, FORMAT, «MONO_OR_STEREO», «P
 use Rattle.settings.specs.Steps.{formatIn, stereoIn}
 use Rattle.entries.specs.Entries.{added}
 use Rattle.config.specs.Parsed.{steps, toAdd, parsed, configured, bytesAfter}
-use Rattle.config.specs.Queue.{pushed}
+use Rattle.queueing.specs.Queue.{pushed}
 
 -- ---- "that voice untouched": with a number that is not 0, the record and the configuration's bytes stay as they were
 

@@ -6,7 +6,7 @@ use native.Mathlib.Omega.{arith}
 use lib.ListN.{length}
 use Rattle.voice.specs.declared.record.Entry.{Entry}
 use Rattle.voice.specs.declared.record.Voice.{Voice}
-use Rattle.config.specs.Queue.{pushed, pushedAll}
+use Rattle.queueing.specs.Queue.{pushed, pushedAll}
 
 pub pushed-none : (v : Voice) → pushedAll [] v ≡ v
 unfolding pushedAll

@@ -10,7 +10,7 @@ use Rattle.lists.proofs.Bools.{passed}
 use Rattle.voice.specs.Blank.{limit}
 use Rattle.voice.specs.Long.{anyTooLong}
 use Rattle.voice.specs.declared.record.Entry.{Entry}
-use Rattle.config.specs.Refusal.{refusalOf}
+use Rattle.queueing.specs.Refusal.{refusalOf}
 
 module _ (queued : ℕ) (entries : List Entry) (L : ℕ) (served : refusalOf queued entries L ≡ 0) where
   chain : (ltb limit (queued + length entries) ≡ false) × _≡_ {A = ℕ} (cond (anyTooLong L entries) 21 0) 0

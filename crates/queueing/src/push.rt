@@ -3,7 +3,7 @@ ghost use mathlib.Core.Path.{_≡_};
 ghost use Prim.Native.Nat.{_+_, _≤_, _<_};
 ghost use Rattle.voice.specs.Blank.{places};
 ghost use Rattle.entries.specs.Inner.{atMost, listedIn};
-ghost use Rattle.config.specs.Queue.{pushed, pushedAll};
+ghost use Rattle.queueing.specs.Queue.{pushed, pushedAll};
 use entries::added::Added;
 use voice::record::Entry;
 use voice::record::Voice;

@@ -4,7 +4,7 @@ ghost use Prim.Native.Nat.{_≤_};
 ghost use Rattle.voice.specs.Blank.{places};
 ghost use Rattle.voice.specs.Long.{anyTooLong};
 ghost use Rattle.entries.specs.Inner.{atMost, listedIn};
-ghost use Rattle.config.specs.Refusal.{refusalOf};
+ghost use Rattle.queueing.specs.Refusal.{refusalOf};
 use entries::added::Added;
 use voice::blank::LIMIT;
 use voice::malformed::too_long;

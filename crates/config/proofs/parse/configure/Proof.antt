@@ -15,10 +15,10 @@ use Rattle.settings.specs.Dirty.{dirtyIn}
 use Rattle.entries.specs.Entries.{added}
 use Rattle.entries.specs.Inner.{listedIn}
 use Rattle.config.specs.Parsed.{settled, toAdd, refusal, parsed, configured, cleared, bytesAfter}
-use Rattle.config.specs.Refusal.{refusalOf}
-use Rattle.config.specs.Queue.{pushedAll}
+use Rattle.queueing.specs.Refusal.{refusalOf}
+use Rattle.queueing.specs.Queue.{pushedAll}
 use Rattle.entries.proofs.Listed.{listed-long}
-use Rattle.config.proofs.Served.{room-for}
+use Rattle.queueing.proofs.Served.{room-for}
 use Rattle.config.proofs.Room.{settled-room}
 use Rattle.config.proofs.parse.configure.Statement.{statement}
 use Rattle.config.proofs.parse.configure.Tie as tie

@@ -1,9 +1,9 @@
--- `config::push::push` meets its contract: the stores are those of the definition. Assumes nothing.
+-- `queueing::push::push` meets its contract: the stores are those of the definition. Assumes nothing.
 use mathlib.Core.Path.{refl}
-use Rattle.config.specs.Queue.{pushed}
+use Rattle.queueing.specs.Queue.{pushed}
 use borrow.Author.Needs.{needs}
-use Rattle.config.proofs.push.push.Statement.{statement}
-use Rattle.config.proofs.push.push.Tie as tie
+use Rattle.queueing.proofs.push.push.Statement.{statement}
+use Rattle.queueing.proofs.push.push.Tie as tie
 
 mul-e : tie.Need-mul-e
 mul-e c = search needs

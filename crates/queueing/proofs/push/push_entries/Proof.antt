@@ -1,4 +1,4 @@
--- `config::push::push_entries` meets its contract. The invariant: the first `i` entries are queued. Assumes nothing.
+-- `queueing::push::push_entries` meets its contract. The invariant: the first `i` entries are queued. Assumes nothing.
 use mathlib.Core.Path.{_≡_, refl, sym, ap, _∙_}
 use mathlib.Core.List.{List, [], _∷_, _++_}
 use Prim.Native.Nat.{ℕ, _+_, _-_, _≤_, _<_}
@@ -8,11 +8,11 @@ use Rattle.voice.specs.Blank.{places, blankEntry}
 use Rattle.voice.specs.declared.record.Entry.{Entry}
 use Rattle.voice.specs.declared.record.Voice.{Voice}
 use Rattle.entries.specs.Inner.{listedIn}
-use Rattle.config.specs.Queue.{pushed, pushedAll}
+use Rattle.queueing.specs.Queue.{pushed, pushedAll}
 use Rattle.entries.proofs.Listed.{entries-5, first-more}
-use Rattle.config.proofs.Pushing.{pushed-none, pushed-last, pushed-queued}
-use Rattle.config.proofs.push.push_entries.Statement.{statement}
-use Rattle.config.proofs.push.push_entries.Tie as tie
+use Rattle.queueing.proofs.Pushing.{pushed-none, pushed-last, pushed-queued}
+use Rattle.queueing.proofs.push.push_entries.Statement.{statement}
+use Rattle.queueing.proofs.push.push_entries.Tie as tie
 
 abbrev Inv-loop : tie.InvT-loop
 Inv-loop a n w₀ i₀ w i = (i ≤ n) × (w ≡ pushedAll (take i (a .entries)) w₀)

@@ -1,4 +1,4 @@
--- `config::refusal::any_too_long` meets its contract. The invariant: `found` is of the first `i` entries. Assumes nothing.
+-- `queueing::refusal::any_too_long` meets its contract. The invariant: `found` is of the first `i` entries. Assumes nothing.
 use Prim.Native.Nat.{ℕ, _≤_, _<_, _-_}
 use mathlib.Core.Path.{_≡_, refl, sym, _∙_, ap}
 use mathlib.Core.Bool.{Bool, _||_}
@@ -9,8 +9,8 @@ use Rattle.voice.specs.Blank.{blankEntry}
 use Rattle.voice.specs.Long.{tooLong, anyTooLong}
 use Rattle.entries.specs.Inner.{listedIn}
 use Rattle.entries.proofs.Listed.{entries-5}
-use Rattle.config.proofs.refusal.any_too_long.Statement.{statement}
-use Rattle.config.proofs.refusal.any_too_long.Tie as tie
+use Rattle.queueing.proofs.refusal.any_too_long.Statement.{statement}
+use Rattle.queueing.proofs.refusal.any_too_long.Tie as tie
 
 abbrev Inv-loop : tie.InvT-loop
 Inv-loop lane a n found₀ i₀ found i = (i ≤ n) × (found ≡ anyTooLong lane (take i (a .entries)))

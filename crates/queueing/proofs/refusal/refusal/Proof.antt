@@ -1,4 +1,4 @@
--- `config::refusal::refusal` meets its contract: each test is one of the definition, in its order. Assumes nothing.
+-- `queueing::refusal::refusal` meets its contract: each test is one of the definition, in its order. Assumes nothing.
 use mathlib.Core.Path.{_≡_, sym, ap, _∙_}
 use Prim.Native.Nat.{ℕ, _+_, _≤_, _<_}
 use native.Mathlib.Omega.{arith}
@@ -8,10 +8,10 @@ use borrow.Author.Tests.{lt-ltb, le-ltb}
 use Rattle.lists.proofs.Bools.{cond-yes, cond-no}
 use Rattle.voice.specs.Blank.{limit}
 use Rattle.entries.specs.Inner.{listedIn}
-use Rattle.config.specs.Refusal.{refusalOf}
+use Rattle.queueing.specs.Refusal.{refusalOf}
 use Rattle.entries.proofs.Listed.{listed-long}
-use Rattle.config.proofs.refusal.refusal.Statement.{statement}
-use Rattle.config.proofs.refusal.refusal.Tie as tie
+use Rattle.queueing.proofs.refusal.refusal.Statement.{statement}
+use Rattle.queueing.proofs.refusal.refusal.Tie as tie
 
 add-if1 : tie.Need-add-if1
 add-if1 c = search needs
