@@ -1,5 +1,5 @@
--- What is left of an entry is no more than its length, and no more entries are queued than before, at every step before the entries: only RESET,
--- PARTIAL_RESET and the lengthening touch these. Assumes nothing.
+-- What is left of an entry is no more than its length, and no more entries are queued than before, at every step before the entries: only
+-- RESET, PARTIAL_RESET and the lengthening touch these. Assumes nothing.
 use mathlib.Core.Bool.{Bool, true, false, _||_, cond}
 use mathlib.Core.List.{List}
 use Prim.Native.Nat.{ℕ, _*_, _^_, _-_, _≤_, zero-le}
@@ -68,7 +68,8 @@ module _ (bytes : List ℕ) (n : ℕ) where
 
   pub stereo-room : (u : Voice) → Room n u → Room n (stereoStep bytes u)
   unfolding stereoStep
-  stereo-room u p = where-room n (flag bytes «MONO_OR_STEREO» || flag bytes «EMBEDDED_BUFFER») _ u (record { fits = p .fits; queue = p .queue }) p
+  stereo-room u p =
+      where-room n (flag bytes «MONO_OR_STEREO» || flag bytes «EMBEDDED_BUFFER») _ u (record { fits = p .fits; queue = p .queue }) p
 
   lengthen-room : (u : Voice) → Room n u → Room n (lengthenStep bytes u)
   unfolding lengthenStep

@@ -1,5 +1,5 @@
--- A configuration keeps a record well-formed: each step does, since what it reads for number 7's tests passes them, and so does queueing an entry that
--- fits the lane. Assumes nothing.
+-- A configuration keeps a record well-formed: each step does, since what it reads for number 7's tests passes them, and so does queueing an
+-- entry that fits the lane. Assumes nothing.
 use mathlib.Core.Path.{_≡_, refl, _∙_}
 use mathlib.Core.Bool.{Bool, true, false, _&&_, _||_, cond}
 use mathlib.Core.List.{List, [], _∷_}
@@ -96,8 +96,10 @@ over false t h = refl
 
 ranged : (f : Filters) → filtersInRange f ≡ true → Ranged f
 ranged f e =
-    let both = and-both (cond (f .«has_simple») (simpleInRange (f .simple)) true) (cond (f .«has_biquad») (biquadInRange (f .biquad)) true) e in
-    record { simple = under (f .«has_simple») (simpleInRange (f .simple)) (both .0); biquad = under (f .«has_biquad») (biquadInRange (f .biquad)) (both .1) }
+    let simple = simpleInRange (f .simple) in
+    let biquad = biquadInRange (f .biquad) in
+    let both = and-both (cond (f .«has_simple») simple true) (cond (f .«has_biquad») biquad true) e in
+    record { simple = under (f .«has_simple») simple (both .0); biquad = under (f .«has_biquad») biquad (both .1) }
 
 in-range : (f : Filters) → Ranged f → filtersInRange f ≡ true
 in-range f r =
@@ -112,7 +114,8 @@ chosen test blank t true false s h = t
 chosen test blank t false has s h = t
 
 -- a state kept where the filter was on
-state : (on : Bool) (zs blank : List ℤ) → (on ≡ true → allInRange zs ≡ true) → allInRange blank ≡ true → allInRange (cond on zs blank) ≡ true
+state : (on : Bool) (zs blank : List ℤ) → (on ≡ true → allInRange zs ≡ true) → allInRange blank ≡ true
+    → allInRange (cond on zs blank) ≡ true
 state true zs blank h b = h refl
 state false zs blank h b = b
 
@@ -170,7 +173,8 @@ module _ (bytes : List ℕ) where
       })
       p
 
-  filters-in-range : (f : Filters) → filtersInRange f ≡ true → filtersInRange (biquadFilters bytes (simpleFilters bytes (enabledFilters bytes f))) ≡ true
+  filters-in-range : (f : Filters) → filtersInRange f ≡ true
+      → filtersInRange (biquadFilters bytes (simpleFilters bytes (enabledFilters bytes f))) ≡ true
   filters-in-range f e =
       let g = enabledFilters bytes f in
       let h = simpleFilters bytes g in
@@ -179,7 +183,8 @@ module _ (bytes : List ℕ) where
 -- ---- the steps
 
 -- a place of a list after a store at place i, no place past i asked
-stored : (P : Entry → Type 0) (l : List Entry) (i : ℕ) (e d : Entry) → P e → P d → (k : ℕ) → (k < i → P (getD l k d)) → k < suc i → P (getD (set l i e) k d)
+stored : (P : Entry → Type 0) (l : List Entry) (i : ℕ) (e d : Entry) → P e → P d
+    → (k : ℕ) → (k < i → P (getD l k d)) → k < suc i → P (getD (set l i e) k d)
 stored P [] i e d new blank k h b = blank
 stored P (x ∷ xs) zero e d new blank zero h b = new
 stored P (x ∷ xs) zero e d new blank (suc k) h b = let bad : ⊥ = omega arith in absurd bad
@@ -205,7 +210,8 @@ module _ (L : ℕ) where
         decoded = w .decoded;
         entries =
             at-entries L (pushed e u) (λ k l.
-            stored (λ (x : Entry). tooLong L x ≡ false) (u .queue) (u .queued) e blankEntry short blank-short k (entries-at L u (w .entries) k) (omega arith));
+            stored (λ (x : Entry). tooLong L x ≡ false) (u .queue) (u .queued) e blankEntry short blank-short k
+            (entries-at L u (w .entries) k) (omega arith));
         rate = w .rate;
         fraction = w .fraction;
         filters = w .filters;

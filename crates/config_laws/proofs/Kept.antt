@@ -1,5 +1,5 @@
--- What each step of a configuration keeps the whole keeps: by induction on the steps, and on the entries, of which each fits the lane and finds room.
--- Assumes nothing.
+-- What each step of a configuration keeps the whole keeps: by induction on the steps, and on the entries, of which each fits the lane and
+-- finds room. Assumes nothing.
 use mathlib.Core.Path.{_≡_, refl}
 use mathlib.Core.Bool.{Bool, true, false, cond}
 use mathlib.Core.List.{List, [], _∷_, List·Memᴰ, List·Memᴰ·head, List·Memᴰ·tail}
@@ -46,7 +46,7 @@ module _ (bytes coefficients : List ℕ) (v : Voice) (L : ℕ) (served : refusal
   unfolding refusal
   found = served
 
-  entries-fit : settled bytes coefficients v .queued + length (toAdd bytes coefficients v) ≤ limit
+  pub entries-fit : settled bytes coefficients v .queued + length (toAdd bytes coefficients v) ≤ limit
   entries-fit = room-for (settled bytes coefficients v .queued) (toAdd bytes coefficients v) L found
 
   none-too-long : anyTooLong L (toAdd bytes coefficients v) ≡ false
@@ -58,7 +58,8 @@ whole-keeps P bytes cs v L each entry p = by (eqb (dirtyIn bytes) 0) (eqb (refus
   where
     after : refusal bytes cs v L ≡ 0 → P (parsed bytes cs v)
     after served =
-        queued-in-turn P L (toAdd bytes cs v) (settled bytes cs v) entry (none-too-long bytes cs v L served) (entries-fit bytes cs v L served)
+        queued-in-turn P L (toAdd bytes cs v) (settled bytes cs v) entry (none-too-long bytes cs v L served)
+        (entries-fit bytes cs v L served)
         (in-turn P (steps bytes cs) each v p)
 
     by : (clean served : Bool) → eqb (refusal bytes cs v L) 0 ≡ served

@@ -1,3 +1,4 @@
+pub mod Done
 pub mod Formed
 pub mod Kept
 pub mod Ranged

@@ -1,5 +1,5 @@
--- Where bytes are read, a configuration leaves values of their types in a record's fields: each step stores one that bytes can give, and so does
--- queueing an entry. Assumes nothing.
+-- Where bytes are read, a configuration leaves values of their types in a record's fields: each step stores one that bytes can give, and so
+-- does queueing an entry. Assumes nothing.
 use mathlib.Core.Path.{_≡_, refl, _∙_}
 use mathlib.Core.Bool.{Bool, true, false, not, _&&_, _||_, cond}
 use mathlib.Core.List.{List, [], _∷_, List·Memᴰ}
@@ -106,7 +106,8 @@ module _ (s : List ℕ) (bytes : every isByte s ≡ true) where
   history-read : (mark : Bool) (at : ℕ) → historyInRange (historyAt mark s at) ≡ true
   unfolding historyInRange
   history-read mark at =
-      cond-either (λ (h : History). historyInRange h ≡ true) mark _ blankHistory (and-yes _ (sample-at at) ∙ sample-at (at + 2)) history-in-range
+      cond-either (λ (h : History). historyInRange h ≡ true) mark _ blankHistory
+      (and-yes _ (sample-at at) ∙ sample-at (at + 2)) history-in-range
 
   position-read : positionIn s < 4294967296
   position-read =
@@ -165,7 +166,8 @@ biquad-states s t = (at 2, at 3)
     at : (k : ℕ) → getD tests k true ≡ true
     at k = every-at (λ t. t) tests k true t refl
 
-simple-of : (s : SimpleFilter) → signed 32 (s .b0) ≡ true → signed 32 (s .a1) ≡ true → every (signed 32) (s .y1) ≡ true → simpleIn32 s ≡ true
+simple-of : (s : SimpleFilter) → signed 32 (s .b0) ≡ true → signed 32 (s .a1) ≡ true → every (signed 32) (s .y1) ≡ true
+    → simpleIn32 s ≡ true
 unfolding simpleIn32
 simple-of s b0 a1 y1 = and-yes _ b0 ∙ and-yes _ a1 ∙ and-yes true y1
 
@@ -182,11 +184,11 @@ module _ (s : List ℕ) (bytes : every isByte s ≡ true) where
       cond-either In32 (flag s «FILTERS_ENABLED») _ f
       (record {
         simple =
-            cond-either (λ (x : SimpleFilter). simpleIn32 x ≡ true) (eqb (word % 2) 1 && f .«has_simple») (f .simple) defaultSimple (p .simple)
-            simple-in-32;
+            cond-either (λ (x : SimpleFilter). simpleIn32 x ≡ true) (eqb (word % 2) 1 && f .«has_simple») (f .simple) defaultSimple
+            (p .simple) simple-in-32;
         biquad =
-            cond-either (λ (x : BiquadFilter). biquadIn32 x ≡ true) (eqb (word / 2 % 2) 1 && f .«has_biquad») (f .biquad) defaultBiquad (p .biquad)
-            biquad-in-32;
+            cond-either (λ (x : BiquadFilter). biquadIn32 x ≡ true) (eqb (word / 2 % 2) 1 && f .«has_biquad») (f .biquad) defaultBiquad
+            (p .biquad) biquad-in-32;
       })
       p
 
@@ -268,7 +270,8 @@ module _ (bytes : List ℕ) where
   coefficients-range cs b u p =
       let new = tabulate (λ i. signed16 (at16 cs (i * 2))) 16 in
       cond-either R (flag bytes «ADPCM_COEFFICIENTS») _ u
-      (swap (rangeTests u) 6 (every (signed 16) new) p (every-tabulate (signed 16) (λ i. signed16 (at16 cs (i * 2))) 16 (λ i. sample-at cs b (i * 2)))) p
+      (swap (rangeTests u) 6 (every (signed 16) new) p
+      (every-tabulate (signed 16) (λ i. signed16 (at16 cs (i * 2))) 16 (λ i. sample-at cs b (i * 2)))) p
 
   gain-range : (k : ℕ) → Keeps R (gainStep bytes k)
   unfolding gainStep inRange
@@ -282,8 +285,10 @@ module _ (bytes : List ℕ) where
       (swap tests 5 (every (fits binary32) ramps)
       (swap (rangeTests u) 4 (every (fits binary32) gains) p
       (every-splice (fits binary32) (u .gain) (k * 4) read (r .gain)
-      (every-tabulate (fits binary32) (λ channel. gain (at32 bytes (gainAt k channel))) 4 (λ channel. gain-single (at32 bytes (gainAt k channel))))))
-      (every-splice (fits binary32) (u .ramp) (k * 4) (part (k * 4) 4 (u .gain)) (r .ramp) (every-part (fits binary32) (k * 4) 4 (u .gain) (r .gain))))
+      (every-tabulate (fits binary32) (λ channel. gain (at32 bytes (gainAt k channel))) 4
+      (λ channel. gain-single (at32 bytes (gainAt k channel))))))
+      (every-splice (fits binary32) (u .ramp) (k * 4) (part (k * 4) 4 (u .gain)) (r .ramp)
+      (every-part (fits binary32) (k * 4) 4 (u .gain) (r .gain))))
       p
 
   format-range : Keeps R (formatStep bytes)
@@ -299,7 +304,8 @@ module _ (bytes : List ℕ) where
     unfolding syncStep inRange
     sync-range u p =
         let count = at16 bytes (offsetOf configuration "SYNC_COUNT") in
-        cond-either R (flag bytes «SYNC_COUNT») _ u (swap (rangeTests u) 0 (unsigned 16 count) p (below-unsigned 16 count (below-16 bytes b (offsetOf configuration "SYNC_COUNT")))) p
+        cond-either R (flag bytes «SYNC_COUNT») _ u
+        (swap (rangeTests u) 0 (unsigned 16 count) p (below-unsigned 16 count (below-16 bytes b (offsetOf configuration "SYNC_COUNT")))) p
 
     filters-range : Keeps R (filtersStep bytes)
     unfolding filtersStep inRange

@@ -1,5 +1,5 @@
--- When a configuration is refused: the number is the refusal's, 20 and 21 exactly if their sentences hold; refused, all stays; and a zero dirty word
--- leaves all as it is. By the tests one after the other. Assumes nothing.
+-- When a configuration is refused: the number is the refusal's, 20 and 21 exactly if their sentences hold; refused, all stays; and a zero
+-- dirty word leaves all as it is. By the tests one after the other. Assumes nothing.
 use mathlib.Core.Path.{_≡_, refl, sym, ap, _∙_}
 use mathlib.Core.Bool.{Bool, true, false, _||_, cond}
 use mathlib.Core.List.{List, [], _++_}
@@ -39,7 +39,9 @@ use Rattle.config_laws.proofs.Settled.{settled-queued}
 module _ (v u : Voice) (bytes after : List ℕ) (n : ℕ) where
   -- what a configuration comes to, by its two tests
   abbrev outcome : Bool → Bool → Configured
-  outcome clean served = cond clean (record { number = 0; voice = v }) (cond served (record { number = 0; voice = u }) (record { number = n; voice = v }))
+  outcome clean served =
+      cond clean (record { number = 0; voice = v })
+      (cond served (record { number = 0; voice = u }) (record { number = n; voice = v }))
 
   record-stays : (clean served : Bool) → (outcome clean served .number ≡ 0 → ⊥) → outcome clean served .voice ≡ v
   record-stays true served h = refl
@@ -70,7 +72,7 @@ refused-untouched bytes cs v L h =
 -- ---- a zero dirty word
 
 module _ (bytes : List ℕ) (clean : dirtyIn bytes ≡ 0) where
-  no-flag : (bit : ℕ) → flag bytes bit ≡ false
+  pub no-flag : (bit : ℕ) → flag bytes bit ≡ false
   no-flag bit = ap (λ (n : ℕ). flagged n bit) clean ∙ ap (λ (n : ℕ). eqb (n % 2) 1) (zero-div bit)
 
   neither : (bit : ℕ) → (flag bytes bit || flag bytes «EMBEDDED_BUFFER») ≡ false
@@ -144,7 +146,7 @@ module _ (bytes : List ℕ) (clean : dirtyIn bytes ≡ 0) where
     unfolding lengthenStep
     lengthen-none u e = cond-no _ _ (no-flag «PARTIAL_EMBEDDED_BUFFER») ∙ e
 
-    settled-none : (cs : List ℕ) → settled bytes cs v ≡ v
+    pub settled-none : (cs : List ℕ) → settled bytes cs v ≡ v
     unfolding settled
     settled-none cs =
         in-turn Is (steps bytes cs) (
@@ -170,7 +172,7 @@ module _ (bytes : List ℕ) (clean : dirtyIn bytes ≡ 0) where
           ),
         ) v refl
 
-    none-to-add : (cs : List ℕ) → toAdd bytes cs v ≡ []
+    pub none-to-add : (cs : List ℕ) → toAdd bytes cs v ≡ []
     unfolding toAdd added
     none-to-add cs =
         let f = settled bytes cs v .kinds .format in
@@ -208,7 +210,7 @@ module _ (L : ℕ) (es : List Entry) where
   longer-asked l = one-some (tooLong L) (l .entry) es (l .among) (is-long L (l .entry) (l .adpcm) (l .longer))
 
 -- a test does not come out both ways
-clash : false ≡ true → ⊥
+pub clash : false ≡ true → ⊥
 clash f = let z : _≡_ {A = ℕ} 0 1 = cc in omega arith
 
 module _ (bytes cs : List ℕ) (v : Voice) (L : ℕ) where

@@ -1,12 +1,14 @@
--- The format, the channels and the count that the steps before the entries leave: the two resets and the format's steps decide them, and every step
--- between keeps them. Assumes nothing.
+-- The format, the channels, the count and the queue that the steps before the entries leave: the two resets and the format's steps decide
+-- them, and every step between keeps them. Assumes nothing.
 use mathlib.Core.Path.{_≡_, refl, sym, _∙_, subst}
 use mathlib.Core.Bool.{Bool, true, false, _||_, cond}
 use mathlib.Core.List.{List, [], _∷_, List·Memᴰ, List·Memᴰ·append-cases, List·Memᴰ·eq-of-singleton, List·Memᴰ·not-nil}
 use mathlib.Core.Logic.{⊎-elim}
 use Prim.Native.Nat.{ℕ, zero, suc, _*_, _^_}
+use lib.ListN.{take}
 use Rattle.lists.proofs.Bools.{cond-either}
 use Rattle.voice.specs.Blank.{defaultVoice}
+use Rattle.voice.specs.Malformed.{queuedIn}
 use Rattle.voice.specs.Set.{set-voice-queued, set-voice-ran-out-at-frame-end}
 use Rattle.voice.specs.declared.record.Entry.{Entry}
 use Rattle.voice.specs.declared.record.Format.{Format}
@@ -21,67 +23,82 @@ use Rattle.config_laws.specs.Laws.{Keeps, kept, formatAfter, stereoAfter
 use Rattle.config.specs.Parsed.{settled, toAdd}
 use Rattle.config_laws.proofs.Kept.{in-turn}
 
--- what a record has of the three
-record Stands (f : Format) (s : Bool) (n : ℕ) (u : Voice) : Type 0 where
+-- what a record has of the four
+record Stands (f : Format) (s : Bool) (n : ℕ) (q : List Entry) (u : Voice) : Type 0 where
   format : u .kinds .format ≡ f
   stereo : u .stereo ≡ s
   queued : u .queued ≡ n
+  queue : queuedIn u ≡ q
 
-module _ (bytes : List ℕ) (f : Format) (s : Bool) (n : ℕ) where
+module _ (bytes : List ℕ) (f : Format) (s : Bool) (n : ℕ) (q : List Entry) where
   abbrev S : Voice → Type 0
-  S u = Stands f s n u
+  S u = Stands f s n q u
+
+  -- a record that has the four of another
+  alike : (u w : Voice) → w .kinds .format ≡ u .kinds .format → w .stereo ≡ u .stereo → w .queued ≡ u .queued → w .queue ≡ u .queue
+      → S u → S w
+  alike u w a b c d p = record {
+    format = a ∙ p .format;
+    stereo = b ∙ p .stereo;
+    queued = c ∙ p .queued;
+    queue = (λ j. take (c j) (d j)) ∙ p .queue;
+  }
 
   enable-stands : Keeps S (enableStep bytes)
   unfolding enableStep
-  enable-stands u p = cond-either S (flag bytes ENABLE) _ u (record { format = p .format; stereo = p .stereo; queued = p .queued }) p
+  enable-stands u p = cond-either S (flag bytes ENABLE) _ u (alike u _ refl refl refl refl p) p
 
   sync-stands : Keeps S (syncStep bytes)
   unfolding syncStep
-  sync-stands u p = cond-either S (flag bytes «SYNC_COUNT») _ u (record { format = p .format; stereo = p .stereo; queued = p .queued }) p
+  sync-stands u p = cond-either S (flag bytes «SYNC_COUNT») _ u (alike u _ refl refl refl refl p) p
 
   rate-stands : Keeps S (rateStep bytes)
   unfolding rateStep
-  rate-stands u p = cond-either S (flag bytes «RATE_MULTIPLIER») _ u (record { format = p .format; stereo = p .stereo; queued = p .queued }) p
+  rate-stands u p = cond-either S (flag bytes «RATE_MULTIPLIER») _ u (alike u _ refl refl refl refl p) p
 
   interpolation-stands : Keeps S (interpolationStep bytes)
   unfolding interpolationStep
-  interpolation-stands u p = cond-either S (flag bytes INTERPOLATION) _ u (record { format = p .format; stereo = p .stereo; queued = p .queued }) p
+  interpolation-stands u p = cond-either S (flag bytes INTERPOLATION) _ u (alike u _ refl refl refl refl p) p
 
   coefficients-stands : (cs : List ℕ) → Keeps S (coefficientsStep bytes cs)
   unfolding coefficientsStep
-  coefficients-stands cs u p =
-      cond-either S (flag bytes «ADPCM_COEFFICIENTS») _ u (record { format = p .format; stereo = p .stereo; queued = p .queued }) p
+  coefficients-stands cs u p = cond-either S (flag bytes «ADPCM_COEFFICIENTS») _ u (alike u _ refl refl refl refl p) p
 
   gain-stands : (k : ℕ) → Keeps S (gainStep bytes k)
   unfolding gainStep
-  gain-stands k u p = cond-either S (flag bytes (GAIN * 2 ^ k)) _ u (record { format = p .format; stereo = p .stereo; queued = p .queued }) p
+  gain-stands k u p = cond-either S (flag bytes (GAIN * 2 ^ k)) _ u (alike u _ refl refl refl refl p) p
 
   filters-stands : Keeps S (filtersStep bytes)
   unfolding filtersStep
-  filters-stands u p = record { format = p .format; stereo = p .stereo; queued = p .queued }
+  filters-stands u p = alike u _ refl refl refl refl p
 
   lengthen-stands : Keeps S (lengthenStep bytes)
   unfolding lengthenStep
-  lengthen-stands u p =
-      cond-either S (flag bytes «PARTIAL_EMBEDDED_BUFFER») _ u (record { format = p .format; stereo = p .stereo; queued = p .queued }) p
+  lengthen-stands u p = cond-either S (flag bytes «PARTIAL_EMBEDDED_BUFFER») _ u (alike u _ refl refl refl refl p) p
 
-  format-stands : (u : Voice) → S u → Stands (cond (flag bytes FORMAT || flag bytes «EMBEDDED_BUFFER») (formatIn bytes) f) s n (formatStep bytes u)
+  abbrev nextFormat : Format
+  nextFormat = cond (flag bytes FORMAT || flag bytes «EMBEDDED_BUFFER») (formatIn bytes) f
+
+  format-stands : (u : Voice) → S u → Stands nextFormat s n q (formatStep bytes u)
   unfolding formatStep
-  format-stands u p = by (flag bytes FORMAT || flag bytes «EMBEDDED_BUFFER») _ refl refl refl
+  format-stands u p = by (flag bytes FORMAT || flag bytes «EMBEDDED_BUFFER») _ refl refl refl refl
     where
-      by : (b : Bool) (w : Voice) → w .kinds .format ≡ formatIn bytes → w .stereo ≡ u .stereo → w .queued ≡ u .queued
-          → Stands (cond b (formatIn bytes) f) s n (cond b w u)
-      by true w e t q = record { format = e; stereo = t ∙ p .stereo; queued = q ∙ p .queued }
-      by false w e t q = p
+      by : (b : Bool) (w : Voice) → w .kinds .format ≡ formatIn bytes → w .stereo ≡ u .stereo → w .queued ≡ u .queued → w .queue ≡ u .queue
+          → Stands (cond b (formatIn bytes) f) s n q (cond b w u)
+      by true w a b c d = record { format = a; stereo = b ∙ p .stereo; queued = c ∙ p .queued; queue = (λ j. take (c j) (d j)) ∙ p .queue }
+      by false w a b c d = p
 
-  stereo-stands : (u : Voice) → S u → Stands f (cond (flag bytes «MONO_OR_STEREO» || flag bytes «EMBEDDED_BUFFER») (stereoIn bytes) s) n (stereoStep bytes u)
+  abbrev nextStereo : Bool
+  nextStereo = cond (flag bytes «MONO_OR_STEREO» || flag bytes «EMBEDDED_BUFFER») (stereoIn bytes) s
+
+  stereo-stands : (u : Voice) → S u → Stands f nextStereo n q (stereoStep bytes u)
   unfolding stereoStep
-  stereo-stands u p = by (flag bytes «MONO_OR_STEREO» || flag bytes «EMBEDDED_BUFFER») _ refl refl refl
+  stereo-stands u p = by (flag bytes «MONO_OR_STEREO» || flag bytes «EMBEDDED_BUFFER») _ refl refl refl refl
     where
       by : (b : Bool) (w : Voice) → w .kinds .format ≡ u .kinds .format → w .stereo ≡ stereoIn bytes → w .queued ≡ u .queued
-          → Stands f (cond b (stereoIn bytes) s) n (cond b w u)
-      by true w e t q = record { format = e ∙ p .format; stereo = t; queued = q ∙ p .queued }
-      by false w e t q = p
+          → w .queue ≡ u .queue → Stands f (cond b (stereoIn bytes) s) n q (cond b w u)
+      by true w a b c d = record { format = a ∙ p .format; stereo = b; queued = c ∙ p .queued; queue = (λ j. take (c j) (d j)) ∙ p .queue }
+      by false w a b c d = p
 
 module _ (bytes : List ℕ) (v : Voice) where
   -- after the two resets
@@ -91,17 +108,21 @@ module _ (bytes : List ℕ) (v : Voice) where
   abbrev firstStereo : Bool
   firstStereo = cond (flag bytes RESET) false (v .stereo)
 
-  resets-stand : Stands firstFormat firstStereo (kept bytes v) (partialResetStep bytes (resetStep bytes v))
+  abbrev firstQueue : List Entry
+  firstQueue = take (kept bytes v) (v .queue)
+
+  resets-stand : Stands firstFormat firstStereo (kept bytes v) firstQueue (partialResetStep bytes (resetStep bytes v))
   unfolding partialResetStep resetStep defaultVoice
   resets-stand = by (flag bytes RESET) (flag bytes «PARTIAL_RESET»)
     where
       by : (r p : Bool)
           → Stands (cond r Pcm16 (v .kinds .format)) (cond r false (v .stereo)) (cond (r || p) 0 (v .queued))
+          (take (cond (r || p) 0 (v .queued)) (v .queue))
           (cond p (set-voice-queued 0 (set-voice-ran-out-at-frame-end false (cond r defaultVoice v))) (cond r defaultVoice v))
-      by true true = record { format = refl; stereo = refl; queued = refl }
-      by true false = record { format = refl; stereo = refl; queued = refl }
-      by false true = record { format = refl; stereo = refl; queued = refl }
-      by false false = record { format = refl; stereo = refl; queued = refl }
+      by true true = record { format = refl; stereo = refl; queued = refl; queue = refl }
+      by true false = record { format = refl; stereo = refl; queued = refl; queue = refl }
+      by false true = record { format = refl; stereo = refl; queued = refl; queue = refl }
+      by false false = record { format = refl; stereo = refl; queued = refl; queue = refl }
 
   module _ (cs : List ℕ) where
     between : List (Voice → Voice)
@@ -109,21 +130,24 @@ module _ (bytes : List ℕ) (v : Voice) where
         enableStep bytes ∷ syncStep bytes ∷ rateStep bytes ∷ interpolationStep bytes ∷ coefficientsStep bytes cs ∷ gainStep bytes 0
         ∷ gainStep bytes 1 ∷ gainStep bytes 2 ∷ filtersStep bytes ∷ []
 
-    settled-stands : Stands (formatAfter bytes v) (stereoAfter bytes v) (kept bytes v) (settled bytes cs v)
+    settled-stands : Stands (formatAfter bytes v) (stereoAfter bytes v) (kept bytes v) firstQueue (settled bytes cs v)
     unfolding settled between
     settled-stands =
-        lengthen-stands bytes _ _ _ _ (stereo-stands bytes _ _ _ _ (format-stands bytes _ _ _ _
-        (in-turn (Stands firstFormat firstStereo (kept bytes v)) between (
-          enable-stands bytes _ _ _,
+        lengthen-stands bytes _ _ _ _ _ (stereo-stands bytes _ _ _ _ _ (format-stands bytes _ _ _ _ _
+        (in-turn (Stands firstFormat firstStereo (kept bytes v) firstQueue) between (
+          enable-stands bytes _ _ _ _,
           (
-            sync-stands bytes _ _ _,
+            sync-stands bytes _ _ _ _,
             (
-              rate-stands bytes _ _ _,
+              rate-stands bytes _ _ _ _,
               (
-                interpolation-stands bytes _ _ _,
+                interpolation-stands bytes _ _ _ _,
                 (
-                  coefficients-stands bytes _ _ _ cs,
-                  (gain-stands bytes _ _ _ 0, (gain-stands bytes _ _ _ 1, (gain-stands bytes _ _ _ 2, (filters-stands bytes _ _ _, tt)))),
+                  coefficients-stands bytes _ _ _ _ cs,
+                  (
+                    gain-stands bytes _ _ _ _ 0,
+                    (gain-stands bytes _ _ _ _ 1, (gain-stands bytes _ _ _ _ 2, (filters-stands bytes _ _ _ _, tt))),
+                  ),
                 ),
               ),
             ),
@@ -134,13 +158,17 @@ module _ (bytes : List ℕ) (v : Voice) where
     pub settled-queued : settled bytes cs v .queued ≡ kept bytes v
     settled-queued = settled-stands .queued
 
+    pub settled-queue : queuedIn (settled bytes cs v) ≡ take (kept bytes v) (v .queue)
+    settled-queue = settled-stands .queue
+
 pub entries-take : EntriesTake
 unfolding toAdd
 entries-take bytes cs v = λ j. added bytes (settled-stands bytes v cs .format j) (settled-stands bytes v cs .stereo j)
 
 -- ---- each entry
 
-module _ (P : Entry → Type 0) (bytes : List ℕ) (f : Format) (s : Bool) (first : P (embedded bytes f s)) (each : (k : ℕ) → P (slotEntry bytes f s k)) where
+module _ (P : Entry → Type 0) (bytes : List ℕ) (f : Format) (s : Bool)
+    (first : P (embedded bytes f s)) (each : (k : ℕ) → P (slotEntry bytes f s k)) where
   one-added : (b : Bool) (x e : Entry) → P x → List·Memᴰ e (cond b (x ∷ []) []) → P e
   one-added true x e p m = subst P (sym (List·Memᴰ·eq-of-singleton m)) p
   one-added false x e p m = absurd (List·Memᴰ·not-nil m)
@@ -148,7 +176,8 @@ module _ (P : Entry → Type 0) (bytes : List ℕ) (f : Format) (s : Bool) (firs
   slots-added : (k : ℕ) (e : Entry) → List·Memᴰ e (slotsEntries bytes f s k) → P e
   slots-added zero e m = absurd (List·Memᴰ·not-nil m)
   slots-added (suc k) e m =
-      ⊎-elim (slots-added k e) (one-added (slotAdds bytes k) (slotEntry bytes f s k) e (each k)) (List·Memᴰ·append-cases (slotsEntries bytes f s k) m)
+      ⊎-elim (slots-added k e) (one-added (slotAdds bytes k) (slotEntry bytes f s k) e (each k))
+      (List·Memᴰ·append-cases (slotsEntries bytes f s k) m)
 
   -- what holds of the embedded entry and of every slot's holds of each entry that is added
   pub all-added : (e : Entry) → List·Memᴰ e (added bytes f s) → P e

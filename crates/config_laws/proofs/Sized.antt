@@ -25,9 +25,10 @@ use Rattle.settings.specs.Dirty.{«SYNC_COUNT», RESET, «EMBEDDED_BUFFER»}
 use Rattle.settings.specs.Steps.{resetStep, partialResetStep, enableStep, syncStep, rateStep, interpolationStep, coefficientsStep}
 use Rattle.settings.specs.Steps.{gainStep, enabledFilters, simpleFilters, biquadFilters, filtersStep, formatStep, stereoStep}
 use Rattle.settings.specs.Steps.{lengthenStep}
-use Rattle.config_laws.specs.Laws.{Keeps, KeepsSized}
+use Rattle.config_laws.specs.Laws.{Keeps, EachKeeps, KeepsSized}
+use Rattle.config.specs.Parsed.{steps, settled}
 use Rattle.queueing.specs.Queue.{pushed}
-use Rattle.config_laws.proofs.Kept.{whole-keeps}
+use Rattle.config_laws.proofs.Kept.{in-turn, whole-keeps}
 
 -- ---- the filters
 
@@ -180,31 +181,28 @@ module _ (bytes : List ℕ) where
   unfolding lengthenStep sized
   lengthen-sized u p = cond-either S (flag bytes «PARTIAL_EMBEDDED_BUFFER») _ u p p
 
-pub keeps-sized : KeepsSized
-keeps-sized bytes cs v L p =
-    whole-keeps S bytes cs v L (
-      reset-sized bytes,
+each-sized : (bytes cs : List ℕ) → EachKeeps S (steps bytes cs)
+each-sized bytes cs = (
+  reset-sized bytes,
+  (
+    partial-sized bytes,
+    (
+      enable-sized bytes,
       (
-        partial-sized bytes,
+        sync-sized bytes,
         (
-          enable-sized bytes,
+          rate-sized bytes,
           (
-            sync-sized bytes,
+            interpolation-sized bytes,
             (
-              rate-sized bytes,
+              coefficients-sized bytes cs,
               (
-                interpolation-sized bytes,
+                gain-sized bytes 0,
                 (
-                  coefficients-sized bytes cs,
+                  gain-sized bytes 1,
                   (
-                    gain-sized bytes 0,
-                    (
-                      gain-sized bytes 1,
-                      (
-                        gain-sized bytes 2,
-                        (filters-sized bytes, (format-sized bytes, (stereo-sized bytes, (lengthen-sized bytes, tt)))),
-                      ),
-                    ),
+                    gain-sized bytes 2,
+                    (filters-sized bytes, (format-sized bytes, (stereo-sized bytes, (lengthen-sized bytes, tt)))),
                   ),
                 ),
               ),
@@ -212,5 +210,13 @@ keeps-sized bytes cs v L p =
           ),
         ),
       ),
-    )
-    (λ e m short u room q. pushed-sized e u q) p
+    ),
+  ),
+)
+
+pub settled-sized : (bytes cs : List ℕ) (v : Voice) → sized v ≡ true → sized (settled bytes cs v) ≡ true
+unfolding settled
+settled-sized bytes cs v p = in-turn S (steps bytes cs) (each-sized bytes cs) v p
+
+pub keeps-sized : KeepsSized
+keeps-sized bytes cs v L p = whole-keeps S bytes cs v L (each-sized bytes cs) (λ e m short u room q. pushed-sized e u q) p

@@ -1,20 +1,22 @@
 -- What document 01 says of a voice's configuration as a whole. Assumes nothing: these are statements.
 use Prim.Native.Nat.{ℕ, _+_, _≤_, _<_}
 use mathlib.Core.Bool.{Bool, true, false, _||_, cond}
-use mathlib.Core.List.{List, [], _∷_, List·Memᴰ}
+use mathlib.Core.List.{List, [], _∷_, _++_, List·Memᴰ}
 use mathlib.Core.Logic.{_↔_}
 use mathlib.Core.Path.{_≡_}
-use lib.ListN.{length}
+use lib.ListN.{length, take, getD}
 use Rattle.lists.specs.Some.{every}
+use Rattle.little.specs.Little.{at16}
+use Rattle.fields.specs.Fields.{configuration, offsetOf, sizeOf, total}
 use Rattle.voice.specs.Blank.{limit}
 use Rattle.voice.specs.Long.{tooLong}
-use Rattle.voice.specs.Malformed.{malformed}
+use Rattle.voice.specs.Malformed.{queuedIn, malformed}
 use Rattle.voice.specs.Range.{isByte, inRange, sized}
 use Rattle.voice.specs.declared.record.Entry.{Entry}
 use Rattle.voice.specs.declared.record.Format.{Format}
 use Rattle.voice.specs.declared.record.Format.the-variants.{Pcm16, Adpcm}
 use Rattle.voice.specs.declared.record.Voice.{Voice}
-use Rattle.settings.specs.Dirty.{dirtyIn, flag, FORMAT, «MONO_OR_STEREO», «PARTIAL_RESET», RESET, «EMBEDDED_BUFFER»}
+use Rattle.settings.specs.Dirty.{dirtyIn, flag, FORMAT, «MONO_OR_STEREO», «PARTIAL_RESET», «BUFFER_QUEUE», RESET, «EMBEDDED_BUFFER»}
 use Rattle.settings.specs.Steps.{formatIn, stereoIn}
 use Rattle.entries.specs.Entries.{added}
 use Rattle.config.specs.Parsed.{steps, toAdd, parsed, configured, bytesAfter}
@@ -31,6 +33,24 @@ RefusedUntouched =
     (bytes coefficients : List ℕ) (v : Voice) (L : ℕ)
     → (configured bytes coefficients v L .number ≡ 0 → ⊥)
     → Untouched bytes coefficients v L
+
+-- ---- "The dirty word is then 0; the slot mask only if BUFFER_QUEUE was set": of a voice that is served, and every other byte stays
+
+abbrev pub maskAt : ℕ
+maskAt = offsetOf configuration "BUFFERS_DIRTY"
+
+pub record Cleared (before after : List ℕ) : Type 0 where
+  pub dirty : dirtyIn after ≡ 0
+  pub mask : at16 after maskAt ≡ cond (flag before «BUFFER_QUEUE») 0 (at16 before maskAt)
+  pub before-mask : (k : ℕ) → sizeOf configuration "DIRTY" ≤ k → k < maskAt → getD after k 0 ≡ getD before k 0
+  pub past-mask : (k : ℕ) → maskAt + sizeOf configuration "BUFFERS_DIRTY" ≤ k → getD after k 0 ≡ getD before k 0
+
+abbrev pub ServedCleared : Type 0
+ServedCleared =
+    (bytes coefficients : List ℕ) (v : Voice) (L : ℕ)
+    → length bytes ≡ total configuration
+    → configured bytes coefficients v L .number ≡ 0
+    → Cleared bytes (bytesAfter bytes coefficients v L)
 
 -- ---- "A zero dirty word does nothing": the number is 0, the record and the bytes stay; and no step, no entry would have changed it
 
@@ -107,11 +127,19 @@ pub record Taken (bytes : List ℕ) (v : Voice) (e : Entry) : Type 0 where
 abbrev pub EachTakes : Type 0
 EachTakes = (bytes coefficients : List ℕ) (v : Voice) (e : Entry) → List·Memᴰ e (toAdd bytes coefficients v) → Taken bytes v e
 
--- ---- when 20 and 21 are given
+-- ---- what is queued after, and when 20 and 21 are given
 
 -- how many entries stay queued: "The count for 20 starts after clearing by RESET or PARTIAL_RESET"
 abbrev pub kept : List ℕ → Voice → ℕ
 kept bytes v = cond (flag bytes RESET || flag bytes «PARTIAL_RESET») 0 (v .queued)
+
+-- of a voice that is served: "Entries keep their order", those that stay first, then those that the flags add
+abbrev pub ServedQueue : Type 0
+ServedQueue =
+    (bytes coefficients : List ℕ) (v : Voice) (L : ℕ)
+    → sized v ≡ true
+    → configured bytes coefficients v L .number ≡ 0
+    → queuedIn (configured bytes coefficients v L .voice) ≡ take (kept bytes v) (v .queue) ++ toAdd bytes coefficients v
 
 -- an entry of a list is ADPCM and longer than L
 pub record Longer (L : ℕ) (entries : List Entry) : Type 0 where

@@ -1,4 +1,5 @@
--- `config::parse::configure` meets its contract: nothing is done, the voice is refused and untouched, or it is served whole. Assumes nothing.
+-- `config::parse::configure` meets its contract: nothing is done, the voice is refused and untouched, or it is served whole. Assumes
+-- nothing.
 use mathlib.Core.Path.{_≡_, sym, ap, _∙_, subst}
 use mathlib.Core.Bool.{false, cond}
 use mathlib.Core.List.{List}
@@ -82,7 +83,9 @@ module _ (c : tie.After-refusal) where
   -- the number that the code finds
   found : c .refusal .result ≡ number
   unfolding refusal
-  found = c .refusal .ensures ∙ (λ j. refusalOf (same-record (c .before) j .queued) (same-entries (c .before) j) (start (c .before) .args .lane))
+  found =
+      c .refusal .ensures
+      ∙ (λ j. refusalOf (same-record (c .before) j .queued) (same-entries (c .before) j) (start (c .before) .args .lane))
 
 dirty : (c : tie.After-to-add) → eqb (dirtyIn (bytes c)) 0 ≡ false
 dirty c =

@@ -26,7 +26,8 @@ unfolding listedIn
 returns c =
     let e = c .before in
     let f = e .before .before in (
-      c .with-entry .ensures .0 ∙ ap (λ (x : Entry). x ∷ []) (e .embedded .ensures) ∙ sym (cond-yes _ _ (sym (f .flag .ensures) ∙ e .before .if1 .taken)),
+      c .with-entry .ensures .0 ∙ ap (λ (x : Entry). x ∷ []) (e .embedded .ensures)
+          ∙ sym (cond-yes _ _ (sym (f .flag .ensures) ∙ e .before .if1 .taken)),
       omega (arith, c .with-entry .ensures .1),
     )
 

@@ -26,7 +26,8 @@ returns c =
     let a = s .before .before .args in
     let adds = sym (s .slot-adds .ensures) ∙ e .before .if1 .taken in (
       c .with-entry .ensures .0 ∙ ap (λ (x : Entry). listedIn (a .a) ++ (x ∷ [])) (e .slot-entry .ensures)
-          ∙ ap (λ (l : List Entry). listedIn (a .a) ++ l) (sym (cond-yes (slotEntry (a .bytes .now) (a .format) (a .stereo) (a .k) ∷ []) [] adds)),
+          ∙ ap (λ (l : List Entry). listedIn (a .a) ++ l)
+          (sym (cond-yes (slotEntry (a .bytes .now) (a .format) (a .stereo) (a .k) ∷ []) [] adds)),
       omega (arith, c .with-entry .ensures .1),
     )
 

@@ -1,5 +1,5 @@
--- `entries::added::with_slots` meets its contract. The invariant: the list is what was there with the entries of the first `k` slots behind it, and
--- `bit` is that of slot `k`. Assumes nothing.
+-- `entries::added::with_slots` meets its contract. The invariant: the list is what was there with the entries of the first `k` slots behind
+-- it, and `bit` is that of slot `k`. Assumes nothing.
 use mathlib.Core.Path.{_≡_, refl, sym, ap, _∙_}
 use mathlib.Core.List.{List, [], _∷_, _++_, append-nil, append-assoc}
 use Prim.Native.Nat.{ℕ, suc, _+_, _*_, _-_, _^_, _≤_, _<_}
