@@ -1,11 +1,11 @@
 // The configuration reader.
 use entries::added::to_add;
 use fields::config;
+use filter_settings::filters_step;
 use queueing::push::push_entries;
 use queueing::refusal::refusal;
 use settings::dirty;
 use settings::dirty::flag;
-use settings::filtering::filters_step;
 use settings::gains::gain_step;
 use settings::steps;
 use voice::record::Voice;

@@ -1,8 +1,8 @@
--- `settings::filtering::four_if` meets its contract: the mark decides, as in the definition. Assumes nothing.
+-- `filter_settings::four_if` meets its contract: the mark decides, as in the definition. Assumes nothing.
 use mathlib.Core.Path.{sym}
 use Rattle.lists.proofs.Bools.{cond-yes, cond-no}
-use Rattle.settings.proofs.filtering.four_if.Statement.{statement}
-use Rattle.settings.proofs.filtering.four_if.Tie as tie
+use Rattle.filter_settings.proofs.four_if.Statement.{statement}
+use Rattle.filter_settings.proofs.four_if.Tie as tie
 
 returns : tie.Need-returns
 returns c =

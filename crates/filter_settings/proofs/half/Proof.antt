@@ -1,11 +1,11 @@
--- `settings::filtering::half` meets its contract: a 16-bit number is the same among the 32-bit ones. Assumes nothing.
+-- `filter_settings::half` meets its contract: a 16-bit number is the same among the 32-bit ones. Assumes nothing.
 use mathlib.Core.Path.{_∙_}
 use mir.Syntax.{w16, w32}
 use mir.Val.{SFits}
 use Rattle.numbers.proofs.Bounds.{is-fits, is-param, is-read}
 use borrow.Author.Needs.{needs}
-use Rattle.settings.proofs.filtering.half.Statement.{statement}
-use Rattle.settings.proofs.filtering.half.Tie as tie
+use Rattle.filter_settings.proofs.half.Statement.{statement}
+use Rattle.filter_settings.proofs.half.Tie as tie
 
 signed-at-requires : tie.Need-signed-at-requires
 signed-at-requires c κs = search needs

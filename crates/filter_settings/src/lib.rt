@@ -1,6 +1,6 @@
-// What the flags of the dirty word do to the filters of a voice.
-use crate::dirty;
-use crate::dirty::flag;
+// Of module 4, the configuration of a voice: what the flags of its dirty word do to its filters. `filters_step` takes the record by value
+// and the voice's 192 bytes, and gives the record back with its filters switched and given coefficients as the definitions of `settings`
+// say. The length of the bytes is required; nothing is refused, and no memory is written.
 use fields::config;
 use filters::defaults;
 use filters::state::BiquadFilter;
@@ -8,6 +8,8 @@ use filters::state::Filters;
 use filters::state::SimpleFilter;
 use little::read16;
 use little::signed_at;
+use settings::dirty;
+use settings::dirty::flag;
 use voice::record::Voice;
 ghost use mathlib.Core.Path.{_≡_};
 ghost use mathlib.Core.Bool.{cond};

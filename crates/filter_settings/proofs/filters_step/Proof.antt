@@ -1,12 +1,12 @@
--- `settings::filtering::filters_step` meets its contract: each callee says its part of the definition. Assumes nothing.
+-- `filter_settings::filters_step` meets its contract: each callee says its part of the definition. Assumes nothing.
 use mathlib.Core.Path.{ap, _∙_}
 use denote.Ref.{now}
 use Rattle.filters.specs.declared.state.Filters.{Filters}
 use Rattle.voice.specs.Set.{set-voice-filters}
 use Rattle.settings.specs.Steps.{simpleFilters, biquadFilters, filtersStep}
 use borrow.Author.Needs.{needs}
-use Rattle.settings.proofs.filtering.filters_step.Statement.{statement}
-use Rattle.settings.proofs.filtering.filters_step.Tie as tie
+use Rattle.filter_settings.proofs.filters_step.Statement.{statement}
+use Rattle.filter_settings.proofs.filters_step.Tie as tie
 
 enabled-filters-requires : tie.Need-enabled-filters-requires
 enabled-filters-requires c κs = search needs

@@ -1,14 +1,14 @@
--- `settings::filtering::enabled_filters` meets its contract: the flag decides, and each callee says its part of the definition. Assumes nothing.
+-- `filter_settings::enabled_filters` meets its contract: the flag decides, and each callee says its part of the definition. Assumes nothing.
 use mathlib.Core.Path.{sym, ap, _∙_}
 use mathlib.Core.Bool.{_&&_, cond}
 use Prim.Native.Nat.{ℕ, _/_, _%_}
 use lib.Dec.{eqb}
 use Rattle.filters.specs.Defaults.{defaultSimple, defaultBiquad}
 use Rattle.lists.proofs.Bools.{cond-yes, cond-no}
 use Rattle.settings.specs.Steps.{enabledFilters}
 use borrow.Author.Needs.{needs}
-use Rattle.settings.proofs.filtering.enabled_filters.Statement.{statement}
-use Rattle.settings.proofs.filtering.enabled_filters.Tie as tie
+use Rattle.filter_settings.proofs.enabled_filters.Statement.{statement}
+use Rattle.filter_settings.proofs.enabled_filters.Tie as tie
 
 flag-requires : tie.Need-flag-requires
 flag-requires c κs = search needs
