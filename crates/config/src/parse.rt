@@ -14,7 +14,9 @@ ghost use mathlib.Core.Bool.{cond};
 ghost use Prim.Native.Nat.{_≤_};
 ghost use lib.Dec.{eqb};
 ghost use lib.ListN.{length};
+ghost use Rattle.fields.specs.Fields.{configuration, total};
 ghost use Rattle.voice.specs.Blank.{limit};
+ghost use Rattle.settings.specs.Steps.{coefficientBytes};
 ghost use Rattle.config.specs.Parsed.{inTurn, playSteps, soundSteps, lastSteps, settled, configured, slotsCleared, cleared};
 ghost use Rattle.config.specs.Parsed.{bytesAfter};
 
@@ -25,7 +27,7 @@ pub struct Configured {
 }
 
 fn play_steps(v: Voice, bytes: &[u8]) -> Voice
-    requires { ⌜ length (now bytes) ≡ 192 ⌝ }
+    requires { ⌜ length (now bytes) ≡ total configuration ⌝ }
     ensures { λ r. ⌜ r ≡ inTurn (playSteps (now (bytes .entry))) v ⌝ }
 {
     let a = steps::reset_step(v, bytes);
@@ -37,8 +39,8 @@ fn play_steps(v: Voice, bytes: &[u8]) -> Voice
 }
 
 fn sound_steps(v: Voice, bytes: &[u8], coefficients: &[u8]) -> Voice
-    requires { ⌜ length (now bytes) ≡ 192 ⌝ }
-    requires { ⌜ length (now coefficients) ≡ 32 ⌝ }
+    requires { ⌜ length (now bytes) ≡ total configuration ⌝ }
+    requires { ⌜ length (now coefficients) ≡ coefficientBytes ⌝ }
     ensures { λ r. ⌜ r ≡ inTurn (soundSteps (now (bytes .entry)) (now (coefficients .entry))) v ⌝ }
 {
     let a = steps::coefficients_step(v, bytes, coefficients);
@@ -49,7 +51,7 @@ fn sound_steps(v: Voice, bytes: &[u8], coefficients: &[u8]) -> Voice
 }
 
 fn last_steps(v: Voice, bytes: &[u8]) -> Voice
-    requires { ⌜ length (now bytes) ≡ 192 ⌝ }
+    requires { ⌜ length (now bytes) ≡ total configuration ⌝ }
     requires { ⌜ v .remaining ≤ v .length ⌝ }
     ensures { λ r. ⌜ r ≡ inTurn (lastSteps (now (bytes .entry))) v ⌝ }
 {
@@ -60,8 +62,8 @@ fn last_steps(v: Voice, bytes: &[u8]) -> Voice
 
 // The record after the steps that come before the entries.
 fn settle(v: Voice, bytes: &[u8], coefficients: &[u8]) -> Voice
-    requires { ⌜ length (now bytes) ≡ 192 ⌝ }
-    requires { ⌜ length (now coefficients) ≡ 32 ⌝ }
+    requires { ⌜ length (now bytes) ≡ total configuration ⌝ }
+    requires { ⌜ length (now coefficients) ≡ coefficientBytes ⌝ }
     requires { ⌜ v .remaining ≤ v .length ⌝ }
     ensures { λ r. ⌜ r ≡ settled (now (bytes .entry)) (now (coefficients .entry)) v ⌝ }
 {
@@ -72,7 +74,7 @@ fn settle(v: Voice, bytes: &[u8], coefficients: &[u8]) -> Voice
 
 // Clears the slot mask where BUFFER_QUEUE is set.
 fn clear_slots(bytes: &mut [u8])
-    requires { ⌜ length (now bytes) ≡ 192 ⌝ }
+    requires { ⌜ length (now bytes) ≡ total configuration ⌝ }
     ensures { λ _. ⌜ now (bytes .exit) ≡ slotsCleared (now (bytes .entry)) ⌝ }
 {
     if flag(bytes, dirty::BUFFER_QUEUE) {
@@ -82,7 +84,7 @@ fn clear_slots(bytes: &mut [u8])
 
 // Clears the dirty word of a voice that is served, whose number is 0, and the slot mask with it.
 fn clear_served(bytes: &mut [u8], number: u8)
-    requires { ⌜ length (now bytes) ≡ 192 ⌝ }
+    requires { ⌜ length (now bytes) ≡ total configuration ⌝ }
     ensures { λ _. ⌜ now (bytes .exit) ≡ cond (eqb number 0) (cleared (now (bytes .entry))) (now (bytes .entry)) ⌝ }
 {
     if number == 0 {
@@ -93,8 +95,8 @@ fn clear_served(bytes: &mut [u8], number: u8)
 
 // Serves a voice's configuration whole, or refuses the voice before anything is changed.
 pub fn configure(v: Voice, bytes: &mut [u8], coefficients: &[u8], lane: usize) -> Configured
-    requires { ⌜ length (now bytes) ≡ 192 ⌝ }
-    requires { ⌜ length (now coefficients) ≡ 32 ⌝ }
+    requires { ⌜ length (now bytes) ≡ total configuration ⌝ }
+    requires { ⌜ length (now coefficients) ≡ coefficientBytes ⌝ }
     requires { ⌜ v .queued ≤ limit ⌝ }
     requires { ⌜ v .remaining ≤ v .length ⌝ }
     ensures answer { λ r. ⌜ r ≡ configured (now (bytes .entry)) (now (coefficients .entry)) v lane ⌝ }

@@ -11,6 +11,7 @@ ghost use mathlib.Core.Path.{_≡_};
 ghost use mathlib.Core.List.{_∷_, [], _++_};
 ghost use Prim.Native.Nat.{_+_, _^_, _≤_, _<_};
 ghost use lib.ListN.{length};
+ghost use Rattle.fields.specs.Fields.{configuration, total};
 ghost use Rattle.entries.specs.Entries.{embeddedEntries, slotEntries, slotsEntries, slotCount, added};
 ghost use Rattle.entries.specs.Inner.{atMost, listedIn};
 
@@ -40,7 +41,7 @@ fn with_entry(a: Added, e: Entry) -> Added
 
 // The embedded entry, where it is flagged.
 fn with_embedded(bytes: &[u8], format: Format, stereo: bool) -> Added
-    requires { ⌜ length (now bytes) ≡ 192 ⌝ }
+    requires { ⌜ length (now bytes) ≡ total configuration ⌝ }
     ensures list { λ r. ⌜ listedIn r ≡ embeddedEntries (now (bytes .entry)) format stereo ⌝ }
     ensures count { λ r. ⌜ r .count ≤ 1 ⌝ }
 {
@@ -58,7 +59,7 @@ fn with_embedded(bytes: &[u8], format: Format, stereo: bool) -> Added
 
 // The entry of a slot, where the slot adds one.
 fn with_slot(a: Added, bytes: &[u8], format: Format, stereo: bool, k: usize, bit: u16) -> Added
-    requires { ⌜ length (now bytes) ≡ 192 ⌝ }
+    requires { ⌜ length (now bytes) ≡ total configuration ⌝ }
     requires { ⌜ k < slotCount ⌝ }
     requires { ⌜ bit ≡ 2 ^ k ⌝ }
     requires { ⌜ a .count < atMost ⌝ }
@@ -74,7 +75,7 @@ fn with_slot(a: Added, bytes: &[u8], format: Format, stereo: bool, k: usize, bit
 
 // The entries of the slots.
 fn with_slots(a: Added, bytes: &[u8], format: Format, stereo: bool) -> Added
-    requires { ⌜ length (now bytes) ≡ 192 ⌝ }
+    requires { ⌜ length (now bytes) ≡ total configuration ⌝ }
     requires { ⌜ a .count ≤ 1 ⌝ }
     ensures list { λ r. ⌜ listedIn r ≡ listedIn a ++ slotsEntries (now (bytes .entry)) format stereo slotCount ⌝ }
     ensures count { λ r. ⌜ r .count ≤ atMost ⌝ }
@@ -92,7 +93,7 @@ fn with_slots(a: Added, bytes: &[u8], format: Format, stereo: bool) -> Added
 
 // The embedded entry, then the slots' ones, each where it is flagged.
 pub fn to_add(bytes: &[u8], format: Format, stereo: bool) -> Added
-    requires { ⌜ length (now bytes) ≡ 192 ⌝ }
+    requires { ⌜ length (now bytes) ≡ total configuration ⌝ }
     ensures list { λ r. ⌜ listedIn r ≡ added (now (bytes .entry)) format stereo ⌝ }
     ensures count { λ r. ⌜ r .count ≤ atMost ⌝ }
 {

@@ -31,7 +31,7 @@ fn history_at(mark: bool, bytes: &[u8], at: usize) -> History
 
 // The play position, where it is flagged.
 fn position_in(bytes: &[u8]) -> u32
-    requires { ⌜ length (now bytes) ≡ 192 ⌝ }
+    requires { ⌜ length (now bytes) ≡ total configuration ⌝ }
     ensures { λ r. ⌜ r ≡ positionIn (now (bytes .entry)) ⌝ }
 {
     if flag(bytes, dirty::PLAY_POSITION) {
@@ -41,7 +41,7 @@ fn position_in(bytes: &[u8]) -> u32
 }
 
 pub fn embedded(bytes: &[u8], format: Format, stereo: bool) -> Entry
-    requires { ⌜ length (now bytes) ≡ 192 ⌝ }
+    requires { ⌜ length (now bytes) ≡ total configuration ⌝ }
     ensures { λ r. ⌜ r ≡ embedded (now (bytes .entry)) format stereo ⌝ }
 {
     let flags2 = read16(bytes, config::FLAGS2);
@@ -72,7 +72,7 @@ fn slot_at(k: usize) -> usize
 }
 
 pub fn slot_length(bytes: &[u8], k: usize) -> u32
-    requires { ⌜ length (now bytes) ≡ 192 ⌝ }
+    requires { ⌜ length (now bytes) ≡ total configuration ⌝ }
     requires { ⌜ k < slotCount ⌝ }
     ensures { λ r. ⌜ r ≡ slotLength (now (bytes .entry)) k ⌝ }
 {
@@ -80,7 +80,7 @@ pub fn slot_length(bytes: &[u8], k: usize) -> u32
 }
 
 pub fn slot_entry(bytes: &[u8], format: Format, stereo: bool, k: usize) -> Entry
-    requires { ⌜ length (now bytes) ≡ 192 ⌝ }
+    requires { ⌜ length (now bytes) ≡ total configuration ⌝ }
     requires { ⌜ k < slotCount ⌝ }
     ensures { λ r. ⌜ r ≡ slotEntry (now (bytes .entry)) format stereo k ⌝ }
 {
@@ -104,7 +104,7 @@ pub fn slot_entry(bytes: &[u8], format: Format, stereo: bool, k: usize) -> Entry
 
 // Whether a slot adds its entry: its bit of the mask, given as a power of two, is set, and it is not empty.
 pub fn slot_adds(bytes: &[u8], k: usize, bit: u16) -> bool
-    requires { ⌜ length (now bytes) ≡ 192 ⌝ }
+    requires { ⌜ length (now bytes) ≡ total configuration ⌝ }
     requires { ⌜ k < slotCount ⌝ }
     requires { ⌜ bit ≡ 2 ^ k ⌝ }
     ensures { λ r. ⌜ r ≡ slotAdds (now (bytes .entry)) k ⌝ }

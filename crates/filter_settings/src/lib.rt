@@ -16,6 +16,7 @@ ghost use mathlib.Core.Bool.{cond};
 ghost use Prim.Native.Nat.{_+_, _≤_};
 ghost use lib.IntN.{pos};
 ghost use lib.ListN.{length, replicate};
+ghost use Rattle.fields.specs.Fields.{configuration, total};
 ghost use Rattle.filters.specs.Defaults.{defaultSimple, defaultBiquad};
 ghost use Rattle.settings.specs.Steps.{half, enabledFilters, simpleFilters, biquadFilters, filtersStep};
 
@@ -66,7 +67,7 @@ fn four_if(keep: bool, l: [i32; 4]) -> [i32; 4]
 }
 
 fn enabled_filters(f: Filters, bytes: &[u8]) -> Filters
-    requires { ⌜ length (now bytes) ≡ 192 ⌝ }
+    requires { ⌜ length (now bytes) ≡ total configuration ⌝ }
     ensures { λ r. ⌜ r ≡ enabledFilters (now (bytes .entry)) f ⌝ }
 {
     if flag(bytes, dirty::FILTERS_ENABLED) {
@@ -88,7 +89,7 @@ fn enabled_filters(f: Filters, bytes: &[u8]) -> Filters
 }
 
 fn simple_filters(f: Filters, bytes: &[u8]) -> Filters
-    requires { ⌜ length (now bytes) ≡ 192 ⌝ }
+    requires { ⌜ length (now bytes) ≡ total configuration ⌝ }
     ensures { λ r. ⌜ r ≡ simpleFilters (now (bytes .entry)) f ⌝ }
 {
     if flag(bytes, dirty::SIMPLE_FILTER) {
@@ -112,7 +113,7 @@ fn simple_filters(f: Filters, bytes: &[u8]) -> Filters
 }
 
 fn biquad_filters(f: Filters, bytes: &[u8]) -> Filters
-    requires { ⌜ length (now bytes) ≡ 192 ⌝ }
+    requires { ⌜ length (now bytes) ≡ total configuration ⌝ }
     ensures { λ r. ⌜ r ≡ biquadFilters (now (bytes .entry)) f ⌝ }
 {
     if flag(bytes, dirty::BIQUAD_FILTER) {
@@ -143,7 +144,7 @@ fn biquad_filters(f: Filters, bytes: &[u8]) -> Filters
 }
 
 pub fn filters_step(v: Voice, bytes: &[u8]) -> Voice
-    requires { ⌜ length (now bytes) ≡ 192 ⌝ }
+    requires { ⌜ length (now bytes) ≡ total configuration ⌝ }
     ensures { λ r. ⌜ r ≡ filtersStep (now (bytes .entry)) v ⌝ }
 {
     let mut w = v;
