@@ -1,4 +1,5 @@
--- `filter_settings::enabled_filters` meets its contract: the flag decides, and each callee says its part of the definition. Assumes nothing.
+-- `filter_settings::enabled_filters` meets its contract: the flag decides, and each callee says its part of the definition. Assumes
+-- nothing.
 use mathlib.Core.Path.{sym, ap, _∙_}
 use mathlib.Core.Bool.{_&&_, cond}
 use Prim.Native.Nat.{ℕ, _/_, _%_}

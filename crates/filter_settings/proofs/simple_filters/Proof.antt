@@ -36,7 +36,12 @@ returns c =
     let a1-is : toZ w32 (ofZ w32 (h2 .half2 .result)) ≡ h2 .half2 .result = search needs in
     let a1 = a1-is ∙ h2 .half2 .ensures in
     let y1 = c .before .two-if .ensures in
-    (λ j. record { «has_simple» = true; simple = record { b0 = b0 j; a1 = a1 j; y1 = y1 j }; «has_biquad» = f .«has_biquad»; biquad = f .biquad })
+    (λ j. record {
+      «has_simple» = true;
+      simple = record { b0 = b0 j; a1 = a1 j; y1 = y1 j };
+      «has_biquad» = f .«has_biquad»;
+      biquad = f .biquad;
+    })
     ∙ sym (cond-yes _ _ (sym (t .before .flag .ensures) ∙ t .if1 .taken))
 
 returns-2 : tie.Need-returns-2

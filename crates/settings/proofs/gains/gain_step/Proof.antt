@@ -52,7 +52,8 @@ returns c =
     let gains = b .with-four .ensures ∙ ap (λ (l : List Float). splice (v .gain) (m * 4) l) (b .before .gains-in .ensures) in
     let ramps = c .with-four2 .ensures ∙ ap (λ (l : List Float). splice (v .ramp) (m * 4) l) (f .four-from .ensures) in
     (λ j. set-voice-has-ramp (set (v .«has_ramp») m true) (set-voice-ramp (ramps j) (set-voice-gain (gains j) v)))
-    ∙ sym (cond-yes _ _ (ap (λ (n : ℕ). flag (now (s .args .bytes)) n) (sym (s .pre .1 .1)) ∙ sym (t .before .flag .ensures) ∙ t .if1 .taken))
+    ∙ sym (cond-yes _ _ (ap (λ (n : ℕ). flag (now (s .args .bytes)) n) (sym (s .pre .1 .1))
+    ∙ sym (t .before .flag .ensures) ∙ t .if1 .taken))
 
 returns-2 : tie.Need-returns-2
 unfolding gainStep
