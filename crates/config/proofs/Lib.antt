@@ -1,10 +1,1 @@
-pub mod Formed
-pub mod Kept
-pub mod Listed
-pub mod Pushing
-pub mod Ranged
-pub mod Refused
 pub mod Room
-pub mod Served
-pub mod Settled
-pub mod Sized

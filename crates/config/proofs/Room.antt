@@ -1,5 +1,5 @@
--- What is left of an entry is no more than its length, and no more entries are queued than before, at every step before the entries: only RESET,
--- PARTIAL_RESET and the lengthening touch these. Assumes nothing.
+-- What is left of an entry is no more than its length, and no more entries are queued than before, at every step before the entries: only
+-- RESET, PARTIAL_RESET and the lengthening touch these. Assumes nothing.
 use mathlib.Core.Bool.{Bool, true, false, _||_, cond}
 use mathlib.Core.List.{List}
 use Prim.Native.Nat.{ℕ, _*_, _^_, _-_, _≤_, zero-le}
@@ -7,11 +7,11 @@ use native.Mathlib.Omega.{arith}
 use lib.Dec.{lit≤}
 use Rattle.voice.specs.Blank.{defaultVoice}
 use Rattle.voice.specs.declared.record.Voice.{Voice}
-use Rattle.settings.specs.Dirty.{flag, FORMAT, «MONO_OR_STEREO», «ADPCM_COEFFICIENTS», «PARTIAL_EMBEDDED_BUFFER», «PARTIAL_RESET», ENABLE, INTERPOLATION, «RATE_MULTIPLIER», GAIN, «SYNC_COUNT», RESET, «EMBEDDED_BUFFER»}
-use Rattle.settings.specs.Steps.{resetStep, partialResetStep, enableStep, syncStep, rateStep, interpolationStep, coefficientsStep, gainStep, filtersStep, formatStep, stereoStep, lengthenStep}
-use Rattle.config.specs.Laws.{EachKeeps}
-use Rattle.config.specs.Parsed.{inTurn, playSteps, soundSteps, lastSteps, settled}
-use Rattle.config.proofs.Kept.{in-turn}
+use Rattle.settings.specs.Dirty.{flag, FORMAT, «MONO_OR_STEREO», «ADPCM_COEFFICIENTS», «PARTIAL_EMBEDDED_BUFFER», «PARTIAL_RESET», ENABLE}
+use Rattle.settings.specs.Dirty.{INTERPOLATION, «RATE_MULTIPLIER», GAIN, «SYNC_COUNT», RESET, «EMBEDDED_BUFFER»}
+use Rattle.settings.specs.Steps.{resetStep, partialResetStep, enableStep, syncStep, rateStep, interpolationStep, coefficientsStep}
+use Rattle.settings.specs.Steps.{gainStep, filtersStep, formatStep, stereoStep, lengthenStep}
+use Rattle.config.specs.Parsed.{inTurn, playSteps, soundSteps, settled}
 
 -- of a record that had n entries queued
 pub record Room (n : ℕ) (v : Voice) : Type 0 where
@@ -68,27 +68,22 @@ module _ (bytes : List ℕ) (n : ℕ) where
 
   pub stereo-room : (u : Voice) → Room n u → Room n (stereoStep bytes u)
   unfolding stereoStep
-  stereo-room u p = where-room n (flag bytes «MONO_OR_STEREO» || flag bytes «EMBEDDED_BUFFER») _ u (record { fits = p .fits; queue = p .queue }) p
+  stereo-room u p =
+      where-room n (flag bytes «MONO_OR_STEREO» || flag bytes «EMBEDDED_BUFFER») _ u (record { fits = p .fits; queue = p .queue }) p
 
   lengthen-room : (u : Voice) → Room n u → Room n (lengthenStep bytes u)
   unfolding lengthenStep
   lengthen-room u p =
       where-room n (flag bytes «PARTIAL_EMBEDDED_BUFFER») _ u (record { fits = no-longer _ (u .length - u .remaining); queue = p .queue }) p
 
-  play-keeps : EachKeeps (Room n) (playSteps bytes)
-  play-keeps = (reset-room, (partial-room, (enable-room, (sync-room, (rate-room, (interpolation-room, tt))))))
-
-  sound-keeps : (cs : List ℕ) → EachKeeps (Room n) (soundSteps bytes cs)
-  sound-keeps cs = (coefficients-room cs, (gain-room 0, (gain-room 1, (gain-room 2, (filters-room, tt)))))
-
-  last-keeps : EachKeeps (Room n) (lastSteps bytes)
-  last-keeps = (format-room, (stereo-room, (lengthen-room, tt)))
+  play-room : (v : Voice) → Room n v → Room n (inTurn (playSteps bytes) v)
+  play-room v p = interpolation-room _ (rate-room _ (sync-room _ (enable-room _ (partial-room _ (reset-room v p)))))
 
   -- before the format
   pub sound-room : (cs : List ℕ) (v : Voice) → Room n v → Room n (inTurn (soundSteps bytes cs) (inTurn (playSteps bytes) v))
-  sound-room cs v p = in-turn (Room n) (soundSteps bytes cs) (sound-keeps cs) _ (in-turn (Room n) (playSteps bytes) play-keeps v p)
+  sound-room cs v p = filters-room _ (gain-room 2 _ (gain-room 1 _ (gain-room 0 _ (coefficients-room cs _ (play-room v p)))))
 
   -- before the entries
   pub settled-room : (cs : List ℕ) (v : Voice) → Room n v → Room n (settled bytes cs v)
   unfolding settled
-  settled-room cs v p = in-turn (Room n) (lastSteps bytes) last-keeps _ (sound-room cs v p)
+  settled-room cs v p = lengthen-room _ (stereo-room _ (format-room _ (sound-room cs v p)))

@@ -12,9 +12,9 @@ use Rattle.settings.specs.Dirty.{dirtyIn, flag, «BUFFER_QUEUE»}
 use Rattle.settings.specs.Steps.{resetStep, partialResetStep, enableStep, syncStep, rateStep, interpolationStep, coefficientsStep}
 use Rattle.settings.specs.Steps.{gainStep, filtersStep, formatStep, stereoStep, lengthenStep}
 use Rattle.config.specs.declared.parse.Configured.{Configured}
-use Rattle.config.specs.Entries.{added}
-use Rattle.config.specs.Refusal.{refusalOf}
-use Rattle.config.specs.Queue.{pushedAll}
+use Rattle.entries.specs.Entries.{added}
+use Rattle.queueing.specs.Refusal.{refusalOf}
+use Rattle.queueing.specs.Queue.{pushedAll}
 
 -- steps taken in turn, the first one first
 abbrev pub inTurn : List (Voice → Voice) → Voice → Voice

@@ -1,18 +1,22 @@
 // The configuration reader.
-use crate::added::to_add;
-use crate::push::push_entries;
-use crate::refusal::refusal;
+use entries::added::to_add;
 use fields::config;
+use filter_settings::filters_step;
+use queueing::push::push_entries;
+use queueing::refusal::refusal;
 use settings::dirty;
 use settings::dirty::flag;
-use settings::filtering::filters_step;
 use settings::gains::gain_step;
 use settings::steps;
 use voice::record::Voice;
 ghost use mathlib.Core.Path.{_≡_};
+ghost use mathlib.Core.Bool.{cond};
 ghost use Prim.Native.Nat.{_≤_};
+ghost use lib.Dec.{eqb};
 ghost use lib.ListN.{length};
+ghost use Rattle.fields.specs.Fields.{configuration, total};
 ghost use Rattle.voice.specs.Blank.{limit};
+ghost use Rattle.settings.specs.Steps.{coefficientBytes};
 ghost use Rattle.config.specs.Parsed.{inTurn, playSteps, soundSteps, lastSteps, settled, configured, slotsCleared, cleared};
 ghost use Rattle.config.specs.Parsed.{bytesAfter};
 
@@ -23,7 +27,7 @@ pub struct Configured {
 }
 
 fn play_steps(v: Voice, bytes: &[u8]) -> Voice
-    requires { ⌜ length (now bytes) ≡ 192 ⌝ }
+    requires { ⌜ length (now bytes) ≡ total configuration ⌝ }
     ensures { λ r. ⌜ r ≡ inTurn (playSteps (now (bytes .entry))) v ⌝ }
 {
     let a = steps::reset_step(v, bytes);
@@ -35,7 +39,8 @@ fn play_steps(v: Voice, bytes: &[u8]) -> Voice
 }
 
 fn sound_steps(v: Voice, bytes: &[u8], coefficients: &[u8]) -> Voice
-    requires { ⌜ (length (now bytes) ≡ 192) × (length (now coefficients) ≡ 32) ⌝ }
+    requires { ⌜ length (now bytes) ≡ total configuration ⌝ }
+    requires { ⌜ length (now coefficients) ≡ coefficientBytes ⌝ }
     ensures { λ r. ⌜ r ≡ inTurn (soundSteps (now (bytes .entry)) (now (coefficients .entry))) v ⌝ }
 {
     let a = steps::coefficients_step(v, bytes, coefficients);
@@ -46,7 +51,8 @@ fn sound_steps(v: Voice, bytes: &[u8], coefficients: &[u8]) -> Voice
 }
 
 fn last_steps(v: Voice, bytes: &[u8]) -> Voice
-    requires { ⌜ (length (now bytes) ≡ 192) × (v .remaining ≤ v .length) ⌝ }
+    requires { ⌜ length (now bytes) ≡ total configuration ⌝ }
+    requires { ⌜ v .remaining ≤ v .length ⌝ }
     ensures { λ r. ⌜ r ≡ inTurn (lastSteps (now (bytes .entry))) v ⌝ }
 {
     let a = steps::format_step(v, bytes);
@@ -56,7 +62,9 @@ fn last_steps(v: Voice, bytes: &[u8]) -> Voice
 
 // The record after the steps that come before the entries.
 fn settle(v: Voice, bytes: &[u8], coefficients: &[u8]) -> Voice
-    requires { ⌜ (length (now bytes) ≡ 192) × ((length (now coefficients) ≡ 32) × (v .remaining ≤ v .length)) ⌝ }
+    requires { ⌜ length (now bytes) ≡ total configuration ⌝ }
+    requires { ⌜ length (now coefficients) ≡ coefficientBytes ⌝ }
+    requires { ⌜ v .remaining ≤ v .length ⌝ }
     ensures { λ r. ⌜ r ≡ settled (now (bytes .entry)) (now (coefficients .entry)) v ⌝ }
 {
     let a = play_steps(v, bytes);
@@ -66,7 +74,7 @@ fn settle(v: Voice, bytes: &[u8], coefficients: &[u8]) -> Voice
 
 // Clears the slot mask where BUFFER_QUEUE is set.
 fn clear_slots(bytes: &mut [u8])
-    requires { ⌜ length (now bytes) ≡ 192 ⌝ }
+    requires { ⌜ length (now bytes) ≡ total configuration ⌝ }
     ensures { λ _. ⌜ now (bytes .exit) ≡ slotsCleared (now (bytes .entry)) ⌝ }
 {
     if flag(bytes, dirty::BUFFER_QUEUE) {
@@ -74,18 +82,23 @@ fn clear_slots(bytes: &mut [u8])
     }
 }
 
-// Clears the dirty word, and the slot mask with it.
-fn clear(bytes: &mut [u8])
-    requires { ⌜ length (now bytes) ≡ 192 ⌝ }
-    ensures { λ _. ⌜ now (bytes .exit) ≡ cleared (now (bytes .entry)) ⌝ }
+// Clears the dirty word of a voice that is served, whose number is 0, and the slot mask with it.
+fn clear_served(bytes: &mut [u8], number: u8)
+    requires { ⌜ length (now bytes) ≡ total configuration ⌝ }
+    ensures { λ _. ⌜ now (bytes .exit) ≡ cond (eqb number 0) (cleared (now (bytes .entry))) (now (bytes .entry)) ⌝ }
 {
-    clear_slots(bytes);
-    little::write32(bytes, config::DIRTY, 0);
+    if number == 0 {
+        clear_slots(bytes);
+        little::write32(bytes, config::DIRTY, 0);
+    }
 }
 
 // Serves a voice's configuration whole, or refuses the voice before anything is changed.
 pub fn configure(v: Voice, bytes: &mut [u8], coefficients: &[u8], lane: usize) -> Configured
-    requires { ⌜ (length (now bytes) ≡ 192) × ((length (now coefficients) ≡ 32) × ((v .queued ≤ limit) × (v .remaining ≤ v .length))) ⌝ }
+    requires { ⌜ length (now bytes) ≡ total configuration ⌝ }
+    requires { ⌜ length (now coefficients) ≡ coefficientBytes ⌝ }
+    requires { ⌜ v .queued ≤ limit ⌝ }
+    requires { ⌜ v .remaining ≤ v .length ⌝ }
     ensures answer { λ r. ⌜ r ≡ configured (now (bytes .entry)) (now (coefficients .entry)) v lane ⌝ }
     ensures bytes { λ _. ⌜ now (bytes .exit) ≡ bytesAfter (now (bytes .entry)) (now (coefficients .entry)) v lane ⌝ }
 {
@@ -100,11 +113,11 @@ pub fn configure(v: Voice, bytes: &mut [u8], coefficients: &[u8], lane: usize) -
     let format = kinds.format;
     let entries = to_add(bytes, format, w.stereo);
     let number = refusal(w.queued, entries, lane);
+    clear_served(bytes, number);
     if number != 0 {
         return Configured { number, voice: v };
     }
     let parsed = push_entries(w, entries);
-    clear(bytes);
     Configured {
         number: 0,
         voice: parsed,

@@ -1,8 +1,9 @@
-// Test only: what the programs that replay the oracle's answers share.
-ghost use Prim.Native.Nat.{_+_, _*_, _≤_};
+// Test only: what the programs that replay the oracle's answers share. Floats go in and out by their bits, samples by their bytes. Nothing
+// is refused: each function asks for the room that it fills.
+ghost use Prim.Native.Nat.{_+_, _*_, _≤_, _<_};
 ghost use lib.ListN.{length};
 
-// The float of 32 bits. Those of what is not a number are, with the sign's bit dropped, above an infinity's; they all give the same one.
+// The float of 32 bits: those above an infinity's, with the sign's bit dropped, are not a number.
 pub fn single(bits: u32) -> f32 {
     if bits % 0x8000_0000 <= 0x7f80_0000 {
         return f32::from_bits(bits);
@@ -34,7 +35,7 @@ pub fn bits64(x: f64) -> u64 {
     0x7ff8_0000_0000_0000
 }
 
-// Reads halves, signed numbers of 16 bits, from a place on.
+// Reads signed halves from a place of the bytes on.
 pub fn halves_at(bytes: &[u8], at: usize, out: &mut [i16])
     requires { ⌜ at + length (now out) * 2 ≤ length (now bytes) ⌝ }
 {
@@ -45,7 +46,7 @@ pub fn halves_at(bytes: &[u8], at: usize, out: &mut [i16])
     }
 }
 
-// Puts halves from a place on.
+// Puts signed halves from a place of the bytes on.
 pub fn put_halves(values: &[i16], bytes: &mut [u8], at: usize)
     requires { ⌜ at + length (now values) * 2 ≤ length (now bytes) ⌝ }
 {
@@ -56,12 +57,19 @@ pub fn put_halves(values: &[i16], bytes: &mut [u8], at: usize)
     }
 }
 
-// Writes samples to standard output.
-pub fn write_samples(samples: &[i16]) -> bool
-    requires { ⌜ length (now samples) ≤ 65537 ⌝ }
+fn wide(byte: u8) -> u64
+    ensures { λ r. ⌜ r < 256 ⌝ }
 {
-    let mut bytes = [0u8; 131074];
-    put_halves(samples, &mut bytes, 0);
-    let end = samples.len() * 2;
-    io::write_all(1, &bytes[0..end])
+    byte as u64
+}
+
+// A sum in which every byte and its place count.
+pub fn sum(bytes: &[u8]) -> u32 {
+    let mut total = 0u64;
+    let mut i = 0;
+    while i < bytes.len() {
+        total = (total * 31 + wide(bytes[i])) % 0x1_0000_0000;
+        i += 1;
+    }
+    total as u32
 }

@@ -42,6 +42,10 @@ formatIn bytes =
 abbrev pub stereoIn : List ℕ → Bool
 stereoIn bytes = eqb (at16 bytes (offsetOf configuration "FLAGS1") % 4) 2
 
+-- how many bytes a voice's coefficients take: 16 of 16 bits
+abbrev pub coefficientBytes : ℕ
+coefficientBytes = 32
+
 -- a signed half at a place, as a filter has it
 abbrev pub half : List ℕ → ℕ → ℤ
 half bytes at = signed16 (at16 bytes at)

@@ -2,6 +2,7 @@
 ghost use mathlib.Core.Path.{_≡_};
 ghost use Prim.Native.Nat.{_<_};
 ghost use lib.ListN.{length};
+ghost use Rattle.fields.specs.Fields.{configuration, total};
 ghost use Rattle.settings.specs.Dirty.{flag};
 
 pub const FORMAT: u32 = 0x1;
@@ -40,7 +41,8 @@ pub const EMBEDDED_BUFFER: u32 = 0x4000_0000;
 
 // Whether a bit of the dirty word is set.
 pub fn flag(bytes: &[u8], bit: u32) -> bool
-    requires { ⌜ (length (now bytes) ≡ 192) × (0 < bit) ⌝ }
+    requires { ⌜ length (now bytes) ≡ total configuration ⌝ }
+    requires { ⌜ 0 < bit ⌝ }
     ensures { λ r. ⌜ r ≡ flag (now (bytes .entry)) bit ⌝ }
 {
     fields::flags::flagged(little::read32(bytes, fields::config::DIRTY), bit)

@@ -10,13 +10,15 @@ ghost use Rattle.lists.specs.Splice.{part, splice};
 ghost use Rattle.lists.specs.Tabulate.{tabulate};
 ghost use Rattle.numbers.specs.Bits.{gain};
 ghost use Rattle.little.specs.Little.{at32};
-ghost use Rattle.fields.specs.Fields.{gainAt};
+ghost use Rattle.fields.specs.Fields.{configuration, gainAt, total};
 ghost use Rattle.settings.specs.Dirty.{GAIN};
 ghost use Rattle.settings.specs.Steps.{gainStep};
 
 // The gain of a channel in a mix.
 fn gain_at(bytes: &[u8], mix: usize, channel: usize) -> f32
-    requires { ⌜ (length (now bytes) ≡ 192) × (mix < 3) × (channel < 4) ⌝ }
+    requires { ⌜ length (now bytes) ≡ total configuration ⌝ }
+    requires { ⌜ mix < 3 ⌝ }
+    requires { ⌜ channel < 4 ⌝ }
     ensures { λ r. ⌜ r ≡ gain (at32 (now (bytes .entry)) (gainAt mix channel)) ⌝ }
 {
     numbers::bits::gain_of(read32(bytes, config::GAIN + (mix * 4 + channel) * 4))
@@ -24,7 +26,8 @@ fn gain_at(bytes: &[u8], mix: usize, channel: usize) -> f32
 
 // The four gains of a mix.
 fn gains_in(bytes: &[u8], mix: usize) -> [f32; 4]
-    requires { ⌜ (length (now bytes) ≡ 192) × (mix < 3) ⌝ }
+    requires { ⌜ length (now bytes) ≡ total configuration ⌝ }
+    requires { ⌜ mix < 3 ⌝ }
     ensures { λ r. ⌜ r ≡ tabulate (λ channel. gain (at32 (now (bytes .entry)) (gainAt mix channel))) 4 ⌝ }
 {
     let first = gain_at(bytes, mix, 0);
@@ -55,7 +58,9 @@ fn with_four(all: [f32; 12], at: usize, new: [f32; 4]) -> [f32; 12]
 
 // The bit is that of the mix.
 pub fn gain_step(v: Voice, bytes: &[u8], mix: usize, bit: u32) -> Voice
-    requires { ⌜ (length (now bytes) ≡ 192) × (mix < 3) × (bit ≡ GAIN * 2 ^ mix) ⌝ }
+    requires { ⌜ length (now bytes) ≡ total configuration ⌝ }
+    requires { ⌜ mix < 3 ⌝ }
+    requires { ⌜ bit ≡ GAIN * 2 ^ mix ⌝ }
     ensures { λ r. ⌜ r ≡ gainStep (now (bytes .entry)) mix v ⌝ }
 {
     if flag(bytes, bit) {

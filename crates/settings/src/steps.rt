@@ -15,6 +15,7 @@ use voice::record::Voice;
 ghost use mathlib.Core.Path.{_≡_};
 ghost use Prim.Native.Nat.{max, _*_, _<_, _≤_};
 ghost use lib.ListN.{length};
+ghost use Rattle.fields.specs.Fields.{configuration, total};
 ghost use mathlib.Core.Bool.{_||_, cond};
 ghost use Rattle.lists.specs.Tabulate.{tabulate};
 ghost use Rattle.numbers.specs.Wrap.{signed16};
@@ -22,10 +23,10 @@ ghost use Rattle.little.specs.Little.{at16};
 ghost use Rattle.voice.specs.Set.{set-entry-length};
 ghost use Rattle.settings.specs.Dirty.{flag};
 ghost use Rattle.settings.specs.Steps.{interpolationOf, formatIn, resetStep, partialResetStep, enableStep, syncStep, rateStep};
-ghost use Rattle.settings.specs.Steps.{interpolationStep, coefficientsStep, formatStep, stereoStep, lengthenStep};
+ghost use Rattle.settings.specs.Steps.{interpolationStep, coefficientBytes, coefficientsStep, formatStep, stereoStep, lengthenStep};
 
 pub fn reset_step(v: Voice, bytes: &[u8]) -> Voice
-    requires { ⌜ length (now bytes) ≡ 192 ⌝ }
+    requires { ⌜ length (now bytes) ≡ total configuration ⌝ }
     ensures { λ r. ⌜ r ≡ resetStep (now (bytes .entry)) v ⌝ }
 {
     if flag(bytes, dirty::RESET) {
@@ -35,7 +36,7 @@ pub fn reset_step(v: Voice, bytes: &[u8]) -> Voice
 }
 
 pub fn partial_reset_step(v: Voice, bytes: &[u8]) -> Voice
-    requires { ⌜ length (now bytes) ≡ 192 ⌝ }
+    requires { ⌜ length (now bytes) ≡ total configuration ⌝ }
     ensures { λ r. ⌜ r ≡ partialResetStep (now (bytes .entry)) v ⌝ }
 {
     if flag(bytes, dirty::PARTIAL_RESET) {
@@ -48,7 +49,7 @@ pub fn partial_reset_step(v: Voice, bytes: &[u8]) -> Voice
 }
 
 pub fn enable_step(v: Voice, bytes: &[u8]) -> Voice
-    requires { ⌜ length (now bytes) ≡ 192 ⌝ }
+    requires { ⌜ length (now bytes) ≡ total configuration ⌝ }
     ensures { λ r. ⌜ r ≡ enableStep (now (bytes .entry)) v ⌝ }
 {
     if flag(bytes, dirty::ENABLE) {
@@ -61,7 +62,7 @@ pub fn enable_step(v: Voice, bytes: &[u8]) -> Voice
 }
 
 pub fn sync_step(v: Voice, bytes: &[u8]) -> Voice
-    requires { ⌜ length (now bytes) ≡ 192 ⌝ }
+    requires { ⌜ length (now bytes) ≡ total configuration ⌝ }
     ensures { λ r. ⌜ r ≡ syncStep (now (bytes .entry)) v ⌝ }
 {
     if flag(bytes, dirty::SYNC_COUNT) {
@@ -73,7 +74,7 @@ pub fn sync_step(v: Voice, bytes: &[u8]) -> Voice
 }
 
 pub fn rate_step(v: Voice, bytes: &[u8]) -> Voice
-    requires { ⌜ length (now bytes) ≡ 192 ⌝ }
+    requires { ⌜ length (now bytes) ≡ total configuration ⌝ }
     ensures { λ r. ⌜ r ≡ rateStep (now (bytes .entry)) v ⌝ }
 {
     if flag(bytes, dirty::RATE_MULTIPLIER) {
@@ -97,7 +98,7 @@ fn interpolation_of(n: u8) -> Interpolation
 }
 
 pub fn interpolation_step(v: Voice, bytes: &[u8]) -> Voice
-    requires { ⌜ length (now bytes) ≡ 192 ⌝ }
+    requires { ⌜ length (now bytes) ≡ total configuration ⌝ }
     ensures { λ r. ⌜ r ≡ interpolationStep (now (bytes .entry)) v ⌝ }
 {
     if flag(bytes, dirty::INTERPOLATION) {
@@ -117,7 +118,9 @@ pub fn interpolation_step(v: Voice, bytes: &[u8]) -> Voice
 
 // Whether either of two flags is set.
 fn either(bytes: &[u8], one: u32, other: u32) -> bool
-    requires { ⌜ (length (now bytes) ≡ 192) × (0 < one) × (0 < other) ⌝ }
+    requires { ⌜ length (now bytes) ≡ total configuration ⌝ }
+    requires { ⌜ 0 < one ⌝ }
+    requires { ⌜ 0 < other ⌝ }
     ensures { λ r. ⌜ r ≡ (flag (now (bytes .entry)) one || flag (now (bytes .entry)) other) ⌝ }
 {
     if flag(bytes, one) {
@@ -127,7 +130,7 @@ fn either(bytes: &[u8], one: u32, other: u32) -> bool
 }
 
 pub fn format_in(bytes: &[u8]) -> Format
-    requires { ⌜ length (now bytes) ≡ 192 ⌝ }
+    requires { ⌜ length (now bytes) ≡ total configuration ⌝ }
     ensures { λ r. ⌜ r ≡ formatIn (now (bytes .entry)) ⌝ }
 {
     let code = read16(bytes, config::FLAGS1) / 4 % 4;
@@ -141,7 +144,7 @@ pub fn format_in(bytes: &[u8]) -> Format
 }
 
 pub fn format_step(v: Voice, bytes: &[u8]) -> Voice
-    requires { ⌜ length (now bytes) ≡ 192 ⌝ }
+    requires { ⌜ length (now bytes) ≡ total configuration ⌝ }
     ensures { λ r. ⌜ r ≡ formatStep (now (bytes .entry)) v ⌝ }
 {
     if either(bytes, dirty::FORMAT, dirty::EMBEDDED_BUFFER) {
@@ -160,7 +163,7 @@ pub fn format_step(v: Voice, bytes: &[u8]) -> Voice
 }
 
 pub fn stereo_step(v: Voice, bytes: &[u8]) -> Voice
-    requires { ⌜ length (now bytes) ≡ 192 ⌝ }
+    requires { ⌜ length (now bytes) ≡ total configuration ⌝ }
     ensures { λ r. ⌜ r ≡ stereoStep (now (bytes .entry)) v ⌝ }
 {
     if either(bytes, dirty::MONO_OR_STEREO, dirty::EMBEDDED_BUFFER) {
@@ -193,7 +196,8 @@ fn lengthened(mark: bool, e: Entry, n: u32) -> Entry
 }
 
 pub fn lengthen_step(v: Voice, bytes: &[u8]) -> Voice
-    requires { ⌜ (length (now bytes) ≡ 192) × (v .remaining ≤ v .length) ⌝ }
+    requires { ⌜ length (now bytes) ≡ total configuration ⌝ }
+    requires { ⌜ v .remaining ≤ v .length ⌝ }
     ensures { λ r. ⌜ r ≡ lengthenStep (now (bytes .entry)) v ⌝ }
 {
     if flag(bytes, dirty::PARTIAL_EMBEDDED_BUFFER) {
@@ -212,7 +216,7 @@ pub fn lengthen_step(v: Voice, bytes: &[u8]) -> Voice
 
 // The 16 numbers in 32 bytes.
 fn coefficients_in(bytes: &[u8]) -> [i16; 16]
-    requires { ⌜ length (now bytes) ≡ 32 ⌝ }
+    requires { ⌜ length (now bytes) ≡ coefficientBytes ⌝ }
     ensures { λ r. ⌜ r ≡ tabulate (λ i. signed16 (at16 (now (bytes .entry)) (i * 2))) 16 ⌝ }
 {
     let mut all = [0i16; 16];
@@ -226,7 +230,8 @@ fn coefficients_in(bytes: &[u8]) -> [i16; 16]
 }
 
 pub fn coefficients_step(v: Voice, bytes: &[u8], coefficients: &[u8]) -> Voice
-    requires { ⌜ (length (now bytes) ≡ 192) × (length (now coefficients) ≡ 32) ⌝ }
+    requires { ⌜ length (now bytes) ≡ total configuration ⌝ }
+    requires { ⌜ length (now coefficients) ≡ coefficientBytes ⌝ }
     ensures { λ r. ⌜ r ≡ coefficientsStep (now (bytes .entry)) (now (coefficients .entry)) v ⌝ }
 {
     if flag(bytes, dirty::ADPCM_COEFFICIENTS) {

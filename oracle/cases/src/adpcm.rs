@@ -35,14 +35,19 @@ impl Decode {
         Decode { coefficients, history, count, data: random.bytes(bytes_of(count)) }
     }
 
+    /// document 01's three starred cases, and the samples that they give.
+    pub fn by_hand() -> [(Decode, Vec<i16>); 3] {
+        let plain = |data| Decode { coefficients: [0; 16], history: [0; 2], count: 1, data };
+        [
+            (Decode { count: 3, ..plain(vec![0, 0x1F, 0x70, 0, 0, 0, 0, 0]) }, vec![1, -1, 7]),
+            (Decode { coefficients: [-32768; 16], history: [-32768; 2], ..plain(vec![0; 8]) }, vec![-32768]),
+            (plain(vec![0x0F, 0x80, 0, 0, 0, 0, 0, 0]), vec![-32768]),
+        ]
+    }
+
     /// cases worth meeting in every run.
     pub fn fixed(random: &mut Random) -> Vec<Decode> {
-        let mut cases = vec![
-            // document 01's three starred cases
-            Decode { coefficients: [0; 16], history: [0; 2], count: 3, data: vec![0, 0x1F, 0x70, 0, 0, 0, 0, 0] },
-            Decode { coefficients: [-32768; 16], history: [-32768; 2], count: 1, data: vec![0; 8] },
-            Decode { coefficients: [0; 16], history: [0; 2], count: 1, data: vec![0x0F, 0x80, 0, 0, 0, 0, 0, 0] },
-        ];
+        let mut cases = Decode::by_hand().map(|(case, _)| case).to_vec();
         for header in 0..=255 {
             let mut case = Decode::random(random, 14);
             case.data[0] = header;

@@ -33,3 +33,21 @@ pub fn random(random: &mut Random) -> ([u32; 7], u32) {
     }
     packed(order, std::array::from_fn(|_| random.pick(&[0, 0, 0, 1, 2, 100, 5000])))
 }
+
+/// the lowest of the numbers 1 to 3 that applies by document 01's table, or 0.
+pub fn number(first: usize, second: usize, offsets: &[u32; 7]) -> u8 {
+    if first != second || first > LONGEST {
+        return 1;
+    }
+    let mut places: Vec<(u64, u64)> =
+        offsets.iter().zip(SIZES).map(|(&at, size)| (at as u64, at as u64 + size as u64)).collect();
+    places.sort();
+    if places.iter().any(|&(_, end)| end > first as u64) {
+        return 2;
+    }
+    // no place is empty, so the first two to meet are neighbours
+    if places.windows(2).any(|two| two[0].1 > two[1].0) {
+        return 3;
+    }
+    0
+}

@@ -9,7 +9,7 @@ mod mixing;
 mod random;
 
 pub use adpcm::{Decode, EXTREMES, bytes_of};
-pub use mixing::{Mixed, Mixing};
+pub use mixing::{Mixed, Mixing, VALUES};
 pub use random::Random;
 
 /// frame counters about which the choice of a region turns.
@@ -21,3 +21,12 @@ pub const WORDS: [u32; 12] =
 
 /// samples about which products and interpolation turn.
 pub const SAMPLES: [i16; 9] = [-32768, -32767, -3, -1, 0, 1, 100, 32766, 32767];
+
+/// frame counters, and the region that document 01 has them choose.
+pub const CHOICES: [(u16, u16, u32); 6] =
+    [(1, 1, 1), (2, 1, 0), (0xFFFF, 0xFFFE, 0), (0xFFFF, 0, 1), (0, 0xFFFF, 0), (0xFFFE, 0xFFFF, 1)];
+
+/// a sum in which every byte and its place count.
+pub fn sum(bytes: &[u8]) -> u32 {
+    bytes.iter().fold(0, |sum: u32, &byte| sum.wrapping_mul(31).wrapping_add(byte.into()))
+}

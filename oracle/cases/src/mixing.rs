@@ -10,7 +10,10 @@ use crate::{Random, floats, layout};
 /// bits of the configuration's dirty word that mean something.
 const FLAGS: [u32; 6] = [1 << 8, 1 << 9, 1 << 16, 1 << 24, 1 << 25, 1 << 26];
 
-/// what a frame of the mixer is given. read is 0 or 1.
+/// how many values the mixes have.
+pub const VALUES: usize = 1920;
+
+/// what a frame of the mixer is given. read is 0 or 1 where it is served.
 #[derive(Debug, Clone)]
 pub struct Mixing {
     pub volume: [f32; 3],
@@ -130,6 +133,17 @@ impl Mixing {
     pub fn mixer(&self) -> Mixer {
         let [aux0, aux1, mono] = self.switches;
         Mixer::probe_new(self.volume, [aux0, aux1], mono)
+    }
+
+    /// the lowest number that applies by document 01's table, or 0, with so
+    /// many values for mixes.
+    pub fn number(&self, values: usize) -> u8 {
+        let [first, second] = &self.memory.regions;
+        match layout::number(first.len(), second.len(), &self.offsets) {
+            0 if values != VALUES => 6,
+            0 if self.read > 1 => 8,
+            number => number,
+        }
     }
 
     /// what the oracle makes of it.

@@ -7,8 +7,7 @@ use cases::{Random, SAMPLES};
 use zakuro_core::memory::Memory;
 use zakuro_core::services::dsp_voices::{FRAME_SAMPLES, probe_add, probe_fade, probe_gain_and_rate, probe_lerp};
 
-use crate::port::*;
-use crate::same;
+use crate::{port, same};
 
 /// one of count is a single, a double, a whole number, an interpolation and
 /// a product, with a frame of products and fades for every 160.
@@ -74,40 +73,40 @@ impl Casts {
     fn single(&mut self, x: f32) -> Result<(), String> {
         let bits = x.to_bits();
         let (gain, rate) = probe_gain_and_rate(&mut self.memory, bits);
-        same!(x as i32, yinzhor_cast_i32(x), "{x:e}, bits {bits:#010X}, to i32");
-        same!(x.is_finite(), yinzhor_is_finite(x), "{x:e}, bits {bits:#010X}, finite");
-        same!(gain.to_bits(), yinzhor_gain_of(bits).to_bits(), "bits {bits:#010X} as a gain, its bits");
-        same!(rate.to_bits(), yinzhor_rate_of(bits).to_bits(), "bits {bits:#010X} as a rate, its bits");
+        same!(x as i32, port::cast_i32(x), "{x:e}, bits {bits:#010X}, to i32");
+        same!(x.is_finite(), port::is_finite(x), "{x:e}, bits {bits:#010X}, finite");
+        same!(gain.to_bits(), port::gain_of(bits).to_bits(), "bits {bits:#010X} as a gain, its bits");
+        same!(rate.to_bits(), port::rate_of(bits).to_bits(), "bits {bits:#010X} as a rate, its bits");
         self.calls += 4;
         Ok(())
     }
 
     fn double(&mut self, x: f64) -> Result<(), String> {
         let bits = x.to_bits();
-        same!(x as i16, yinzhor_cast_i16(x), "{x:e}, bits {bits:#018X}, to i16");
-        same!(x as u32, yinzhor_cast_u32(x), "{x:e}, bits {bits:#018X}, to u32");
-        same!(x > 0.0 && x.is_finite(), yinzhor_is_rate(x), "{x:e}, bits {bits:#018X}, a rate");
-        same!(x >= 0.0, yinzhor_is_fraction(x), "{x:e}, bits {bits:#018X}, a fraction");
+        same!(x as i16, port::cast_i16(x), "{x:e}, bits {bits:#018X}, to i16");
+        same!(x as u32, port::cast_u32(x), "{x:e}, bits {bits:#018X}, to u32");
+        same!(x > 0.0 && x.is_finite(), port::is_rate(x), "{x:e}, bits {bits:#018X}, a rate");
+        same!(x >= 0.0, port::is_fraction(x), "{x:e}, bits {bits:#018X}, a fraction");
         self.calls += 4;
         Ok(())
     }
 
     fn whole(&mut self, n: i32) -> Result<(), String> {
-        same!((n as f32).to_bits(), yinzhor_single_of_i32(n).to_bits(), "{n} to f32, its bits");
+        same!((n as f32).to_bits(), port::single_of_i32(n).to_bits(), "{n} to f32, its bits");
         self.calls += 1;
         Ok(())
     }
 
     fn product(&mut self, gain: f32, sample: i16) -> Result<(), String> {
         let oracle = (gain * sample as f32) as i32;
-        same!(oracle, yinzhor_at_gain(gain, sample), "gain {gain:e}, bits {:#010X}, sample {sample}", gain.to_bits());
+        same!(oracle, port::at_gain(gain, sample), "gain {gain:e}, bits {:#010X}, sample {sample}", gain.to_bits());
         self.calls += 1;
         Ok(())
     }
 
     fn between(&mut self, x0: [i16; 2], x1: [i16; 2], fraction: f64) -> Result<(), String> {
         let oracle = probe_lerp(x0, x1, fraction);
-        let port = std::array::from_fn(|channel| yinzhor_interpolate(x0[channel], x1[channel], fraction));
+        let port = std::array::from_fn(|channel| port::interpolate(x0[channel], x1[channel], fraction));
         same!(oracle, port, "{x0:?} to {x1:?} at {fraction:e}, bits {:#018X}", fraction.to_bits());
         self.calls += 2;
         Ok(())
@@ -117,10 +116,10 @@ impl Casts {
         let bits = [from, to].map(f32::to_bits);
         let (added, faded) = (probe_add(samples, to), probe_fade(samples, from, to));
         for (i, &sample) in samples.iter().enumerate() {
-            same!(added[i], yinzhor_at_gain(to, sample), "gain {to:e}, bits {:#010X}, sample {sample}", bits[1]);
+            same!(added[i], port::at_gain(to, sample), "gain {to:e}, bits {:#010X}, sample {sample}", bits[1]);
             same!(
                 faded[i],
-                fading(from, to, i, sample),
+                port::fading(from, to, i, sample),
                 "{from:e} to {to:e}, bits {bits:08X?}, at {i}, sample {sample}"
             );
         }

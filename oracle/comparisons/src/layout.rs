@@ -2,27 +2,9 @@
 //! table. the source has no part in them.
 
 use cases::Random;
-use cases::layout::{self, LONGEST, ORDER, SIZES, packed};
+use cases::layout::{self, LONGEST, ORDER, SIZES, number, packed};
 
 use crate::{port, same};
-
-/// the lowest number that applies, or 0.
-pub fn number(first: usize, second: usize, offsets: &[u32; 7]) -> u8 {
-    if first != second || first > LONGEST {
-        return 1;
-    }
-    let mut places: Vec<(u64, u64)> =
-        offsets.iter().zip(SIZES).map(|(&at, size)| (at as u64, at as u64 + size as u64)).collect();
-    places.sort();
-    if places.iter().any(|&(_, end)| end > first as u64) {
-        return 2;
-    }
-    // no place is empty, so the first two to meet are neighbours
-    if places.windows(2).any(|two| two[0].1 > two[1].0) {
-        return 3;
-    }
-    0
-}
 
 pub fn compare(random: &mut Random, count: usize) -> Result<u64, String> {
     let mut compared = 0;

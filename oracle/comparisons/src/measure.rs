@@ -4,8 +4,8 @@
 use std::hint::black_box;
 use std::time::{Duration, Instant};
 
-use cases::{Decode, Mixing, Random};
 use cases::configuring::{FLAGS, Job};
+use cases::{Decode, Mixing, Random};
 use zakuro_core::services::dsp_voices::probe_decode;
 
 use crate::port;

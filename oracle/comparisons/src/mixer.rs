@@ -3,22 +3,9 @@
 
 use cases::floats::bits;
 use cases::layout::{LONGEST, ORDER, SIZES, packed};
-use cases::{Mixed, Mixing, Random};
+use cases::{Mixed, Mixing, Random, VALUES};
 
-use crate::{layout, port, same};
-
-/// how many values the mixes have.
-const VALUES: usize = 1920;
-
-/// the lowest number that applies, or 0.
-fn number(case: &Mixing, values: usize) -> u8 {
-    let [first, second] = &case.memory.regions;
-    match layout::number(first.len(), second.len(), &case.offsets) {
-        0 if values != VALUES => 6,
-        0 if case.read > 1 => 8,
-        number => number,
-    }
-}
+use crate::{port, same};
 
 pub fn compare(random: &mut Random, count: usize) -> Result<u64, String> {
     let by_hand = Mixing::by_hand();
@@ -77,7 +64,7 @@ fn refusals(random: &mut Random) -> Result<usize, String> {
 
 /// holds one call with so many values for mixes, and gives its number.
 fn one(case: &Mixing, values: usize) -> Result<u8, String> {
-    let number = number(case, values);
+    let number = case.number(values);
     let oracle = if number == 0 { case.tick() } else { case.refused() };
     // the frame is written whole, whatever it held
     let mut port = Mixed { frame: [0x5A5A; 320], ..case.refused() };

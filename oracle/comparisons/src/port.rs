@@ -1,17 +1,16 @@
 //! the port's exported functions. every slice is declared flat, as a pointer
 //! and a count; each wrapper tests what its function requires. those on
-//! numbers alone are called as they are.
+//! numbers alone go by the kinds of the crate number_jobs.
 
 use cases::Mixed;
 use cases::configuring::{COEFFICIENTS, CONFIGURATION, RECORD};
 use cases::listing::{INPUT_ROOM, OUTPUT_ROOM};
 
 unsafe extern "C" {
-    fn yinzhor_current_region(first: u16, second: u16) -> u32;
+    safe fn yinzhor_number(kind: u32, a: u64, b: u64, c: u64) -> u64;
     fn yinzhor_read_dsp32(bytes: *const u8, len: usize, at: usize) -> u32;
     fn yinzhor_write_dsp32(bytes: *mut u8, len: usize, at: usize, value: u32);
-    fn yinzhor_layout_number(first: usize, second: usize, offsets: *const u32, len: usize) -> u8;
-    fn yinzhor_window_number(base: u32, length: usize) -> u8;
+    fn yinzhor_layout_number(first: usize, second: usize, offsets: *const u8, len: usize) -> u8;
     fn yinzhor_present(window: *const u8, len: usize, base: u32, address: u32, count: u32) -> bool;
     fn yinzhor_physical(
         window: *const u8,
@@ -35,19 +34,6 @@ unsafe extern "C" {
     fn yinzhor_listing(input: *const u8, input_len: usize, output: *mut u8) -> usize;
     fn yinzhor_list_read(buffer: *const u8, buffer_len: usize, got: usize, output: *mut u8) -> usize;
 
-    pub safe fn yinzhor_cast_i32(x: f32) -> i32;
-    pub safe fn yinzhor_cast_i16(x: f64) -> i16;
-    pub safe fn yinzhor_cast_u32(x: f64) -> u32;
-    pub safe fn yinzhor_single_of_i32(n: i32) -> f32;
-    pub safe fn yinzhor_gain_of(bits: u32) -> f32;
-    pub safe fn yinzhor_rate_of(bits: u32) -> f64;
-    pub safe fn yinzhor_is_finite(x: f32) -> bool;
-    pub safe fn yinzhor_is_rate(x: f64) -> bool;
-    pub safe fn yinzhor_is_fraction(x: f64) -> bool;
-    pub safe fn yinzhor_at_gain(gain: f32, sample: i16) -> i32;
-    pub safe fn yinzhor_interpolate(a: i16, b: i16, fraction: f64) -> i16;
-    fn yinzhor_fading(from: f32, to: f32, i: usize, sample: i16) -> i32;
-
     fn yinzhor_filter(count: usize, record: *mut u8) -> bool;
     fn yinzhor_record(lane: usize, record: *mut u8) -> u8;
     fn yinzhor_configure(
@@ -64,22 +50,20 @@ unsafe extern "C" {
         first_len: usize,
         second: *mut u8,
         second_len: usize,
-        offsets: *const u32,
+        offsets: *const u8,
         offsets_len: usize,
         read: u32,
         mixes: *const i32,
         mixes_len: usize,
-        volume: *mut f32,
-        volume_len: usize,
-        switches: *mut u8,
-        switches_len: usize,
-        frame: *mut i16,
+        state: *mut u8,
+        state_len: usize,
+        frame: *mut u8,
         frame_len: usize,
     ) -> u8;
 }
 
 pub fn current_region(first: u16, second: u16) -> u32 {
-    unsafe { yinzhor_current_region(first, second) }
+    yinzhor_number(0, first.into(), second.into(), 0) as u32
 }
 
 pub fn read_dsp32(bytes: &[u8], at: usize) -> u32 {
@@ -95,11 +79,16 @@ pub fn write_dsp32(bytes: &mut [u8], at: usize, value: u32) {
 /// the offsets of configurations, statuses, coefficients, frame counter,
 /// mixer configuration, final samples and intermediate samples.
 pub fn layout_number(first: usize, second: usize, offsets: &[u32; 7]) -> u8 {
+    let offsets = words(offsets);
     unsafe { yinzhor_layout_number(first, second, offsets.as_ptr(), offsets.len()) }
 }
 
+fn words(offsets: &[u32; 7]) -> Vec<u8> {
+    offsets.iter().flat_map(|word| word.to_le_bytes()).collect()
+}
+
 pub fn window_number(base: u32, length: usize) -> u8 {
-    unsafe { yinzhor_window_number(base, length) }
+    yinzhor_number(3, base.into(), length as u64, 0) as u8
 }
 
 pub fn present(window: &[u8], base: u32, address: u32, count: u32) -> bool {
@@ -149,16 +138,66 @@ pub fn list_read(buffer: &[u8], got: usize, output: &mut [u8]) -> usize {
     unsafe { yinzhor_list_read(buffer.as_ptr(), buffer.len(), got, output.as_mut_ptr()) }
 }
 
+pub fn cast_i32(x: f32) -> i32 {
+    yinzhor_number(4, x.to_bits().into(), 0, 0) as i32
+}
+
+pub fn cast_i16(x: f64) -> i16 {
+    yinzhor_number(5, x.to_bits(), 0, 0) as i16
+}
+
+pub fn cast_u32(x: f64) -> u32 {
+    yinzhor_number(6, x.to_bits(), 0, 0) as u32
+}
+
+pub fn single_of_i32(n: i32) -> f32 {
+    f32::from_bits(yinzhor_number(7, n as u32 as u64, 0, 0) as u32)
+}
+
+pub fn gain_of(bits: u32) -> f32 {
+    f32::from_bits(yinzhor_number(8, bits.into(), 0, 0) as u32)
+}
+
+pub fn rate_of(bits: u32) -> f64 {
+    f64::from_bits(yinzhor_number(9, bits.into(), 0, 0))
+}
+
+pub fn is_finite(x: f32) -> bool {
+    yinzhor_number(10, x.to_bits().into(), 0, 0) != 0
+}
+
+pub fn is_rate(x: f64) -> bool {
+    yinzhor_number(11, x.to_bits(), 0, 0) != 0
+}
+
+pub fn is_fraction(x: f64) -> bool {
+    yinzhor_number(12, x.to_bits(), 0, 0) != 0
+}
+
+pub fn at_gain(gain: f32, sample: i16) -> i32 {
+    yinzhor_number(13, gain.to_bits().into(), sample as u16 as u64, 0) as i32
+}
+
 pub fn fading(from: f32, to: f32, i: usize, sample: i16) -> i32 {
     assert!(i < 160);
-    unsafe { yinzhor_fading(from, to, i, sample) }
+    yinzhor_number(14, from.to_bits().into(), to.to_bits().into(), (i as u64) << 16 | sample as u16 as u64) as i32
+}
+
+pub fn interpolate(a: i16, b: i16, fraction: f64) -> i16 {
+    yinzhor_number(15, a as u16 as u64, b as u16 as u64, fraction.to_bits()) as i16
 }
 
 /// mixes in place: state and regions are taken from `mixed` and left there,
 /// and the frame with them.
 pub fn mixer_tick(offsets: &[u32; 7], read: u32, mixes: &[i32], mixed: &mut Mixed) -> u8 {
     let Mixed { volume, switches, frame, regions: [first, second] } = mixed;
-    unsafe {
+    let offsets = words(offsets);
+    let mut state = [0; 16];
+    for (part, volume) in state.as_chunks_mut().0.iter_mut().zip(&*volume) {
+        *part = volume.to_bits().to_le_bytes();
+    }
+    state[12..15].copy_from_slice(switches);
+    let number = unsafe {
         yinzhor_mixer_tick(
             first.as_mut_ptr(),
             first.len(),
@@ -169,14 +208,15 @@ pub fn mixer_tick(offsets: &[u32; 7], read: u32, mixes: &[i32], mixed: &mut Mixe
             read,
             mixes.as_ptr(),
             mixes.len(),
-            volume.as_mut_ptr(),
-            volume.len(),
-            switches.as_mut_ptr(),
-            switches.len(),
-            frame.as_mut_ptr(),
-            frame.len(),
+            state.as_mut_ptr(),
+            state.len(),
+            frame.as_mut_ptr().cast(),
+            size_of_val(frame),
         )
-    }
+    };
+    *volume = std::array::from_fn(|i| f32::from_bits(u32::from_le_bytes(state.as_chunks().0[i])));
+    switches.copy_from_slice(&state[12..15]);
+    number
 }
 
 /// puts so many pairs of a record's frame through its filters, and says

@@ -1,6 +1,6 @@
-//! decodes with the port what standard input holds, in the form of the crate
-//! replay_adpcm: each record has 16 coefficients, the history, the count and
-//! the frames, each answer the samples and the history.
+//! decodes with the port what standard input holds: each record has 16
+//! coefficients, the history, the count and the frames, each answer the
+//! samples and the history, as decode.rs of the crate jobs has them.
 
 use std::io::{self, Read, Write};
 

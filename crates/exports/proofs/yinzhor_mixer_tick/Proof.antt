@@ -1,4 +1,5 @@
 -- `exports::yinzhor_mixer_tick` is safe: the slices that are written last have the lengths that were asked. Assumes nothing.
+use native.Mathlib.Omega.{arith}
 use borrow.Author.Needs.{needs}
 use Rattle.exports.proofs.yinzhor_mixer_tick.Statement.{statement}
 use Rattle.exports.proofs.yinzhor_mixer_tick.Tie as tie
@@ -13,16 +14,14 @@ tick-requires : tie.Need-tick-requires
 tick-requires c κs = search needs
 
 put-frame-requires : tie.Need-put-frame-requires
-put-frame-requires c κs = c .before .before .before .before .before .before .before .before .before .before .before .before .before .before .before .before .before .before .before .pre .1 .1 .1
+put-frame-requires c κs =
+    let s = c .before .before .before .before .before .before .before .before .before .before .before .before in
+    omega (arith, s .before .before .before .before .before .before .pre .1 .1)
 
-put-volumes-requires : tie.Need-put-volumes-requires
-put-volumes-requires c κs = c .before .before .before .before .before .before .before .before .before .before .before .before .before .before .before .before .before .before .before .before .before .before .before .pre .1 .0
-
-is-mono-requires : tie.Need-is-mono-requires
-is-mono-requires c κs = search needs
-
-put-switches-requires : tie.Need-put-switches-requires
-put-switches-requires c κs = c .before .before .before .before .before .before .before .before .before .before .before .before .before .before .before .before .before .before .before .before .before .before .before .before .before .before .before .before .before .pre .1 .1 .0
+put-state-requires : tie.Need-put-state-requires
+put-state-requires c κs =
+    let s = c .before .before .before .before .before .before .before .before .before .before .before .before in
+    omega (arith, s .before .before .before .before .before .before .before .before .before .before .before .pre .1 .0)
 
 same-length : tie.Need-same-length
 same-length c = search needs
@@ -36,9 +35,6 @@ same-length-3 c = search needs
 same-length-4 : tie.Need-same-length-4
 same-length-4 c = search needs
 
-same-length-5 : tie.Need-same-length-5
-same-length-5 c = search needs
-
 returns : tie.Need-returns
 returns c = search needs
 
@@ -50,12 +46,9 @@ yinzhor-mixer-tick-spec =
     layout-of-requires
     tick-requires
     put-frame-requires
-    put-volumes-requires
-    is-mono-requires
-    put-switches-requires
+    put-state-requires
     same-length
     same-length-2
     same-length-3
     same-length-4
-    same-length-5
     returns)

@@ -1,4 +1,4 @@
--- `replaying::halves_at` is safe: every place is within. Assumes nothing.
+-- `replaying::halves_at` is safe: the list stays as long. Assumes nothing.
 use mathlib.Core.Path.{_≡_, refl}
 use Prim.Native.Nat.{_-_}
 use lib.ListN.{length}
@@ -43,7 +43,7 @@ same-length : tie.Need-same-length Inv-loop μ-loop
 same-length c = search needs
 
 returns : tie.Need-returns Inv-loop μ-loop
-returns c = tt
+returns c = search needs
 
 pub halves-at-spec : {M : Type 1} → statement M
 halves-at-spec =

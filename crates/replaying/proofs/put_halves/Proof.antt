@@ -28,7 +28,7 @@ shared-slice-copy-out-to-bits16 : tie.Need-shared-slice-copy-out-to-bits16 Inv-l
 shared-slice-copy-out-to-bits16 c = search needs
 
 to-bits16-requires : tie.Need-to-bits16-requires Inv-loop μ-loop
-to-bits16-requires c κs = tt
+to-bits16-requires c κs = search needs
 
 write16-requires : tie.Need-write16-requires Inv-loop μ-loop
 write16-requires c κs = search needs
@@ -46,7 +46,7 @@ same-length : tie.Need-same-length Inv-loop μ-loop
 same-length c = search needs
 
 returns : tie.Need-returns Inv-loop μ-loop
-returns c = tt
+returns c = search needs
 
 pub put-halves-spec : {M : Type 1} → statement M
 put-halves-spec =

@@ -1,8 +1,11 @@
--- `config::parse::configure` meets its contract: nothing is done, the voice is refused and untouched, or it is served whole. Assumes nothing.
+-- `config::parse::configure` meets its contract: nothing is done, the voice is refused and untouched, or it is served whole. Assumes
+-- nothing.
 use mathlib.Core.Path.{_≡_, sym, ap, _∙_, subst}
+use mathlib.Core.Bool.{false, cond}
 use mathlib.Core.List.{List}
 use Prim.Native.Nat.{ℕ, _+_, _≤_}
 use native.Mathlib.Omega.{arith}
+use lib.Dec.{eqb}
 use borrow.Author.Needs.{needs}
 use borrow.Author.Tests.{eq-eqb, ne-eqb}
 use Rattle.lists.proofs.Bools.{cond-yes, cond-no}
@@ -10,13 +13,13 @@ use Rattle.voice.specs.Blank.{limit}
 use Rattle.voice.specs.declared.record.Entry.{Entry}
 use Rattle.voice.specs.declared.record.Voice.{Voice}
 use Rattle.settings.specs.Dirty.{dirtyIn}
-use Rattle.config.specs.Entries.{added}
-use Rattle.config.specs.Inner.{listedIn}
+use Rattle.entries.specs.Entries.{added}
+use Rattle.entries.specs.Inner.{listedIn}
 use Rattle.config.specs.Parsed.{settled, toAdd, refusal, parsed, configured, cleared, bytesAfter}
-use Rattle.config.specs.Refusal.{refusalOf}
-use Rattle.config.specs.Queue.{pushedAll}
-use Rattle.config.proofs.Listed.{listed-long}
-use Rattle.config.proofs.Served.{room-for}
+use Rattle.queueing.specs.Refusal.{refusalOf}
+use Rattle.queueing.specs.Queue.{pushedAll}
+use Rattle.entries.proofs.Listed.{listed-long}
+use Rattle.queueing.proofs.Served.{room-for}
 use Rattle.config.proofs.Room.{settled-room}
 use Rattle.config.proofs.parse.configure.Statement.{statement}
 use Rattle.config.proofs.parse.configure.Tie as tie
@@ -69,55 +72,70 @@ module _ (c : tie.After-to-add) where
       settled-room bytes limit coefficients v (record { fits = start c .pre .1 .1 .1; queue = start c .pre .1 .1 .0 }) .queue
       )
 
+-- the bound of either record's queue is at hand: which of the two is counted is for the number to say
 refusal-requires : tie.Need-refusal-requires
-refusal-requires c κs = (room c, c .to-add .ensures .1)
+refusal-requires c κs = (omega (arith, room c, start c .pre .1 .1 .0), c .to-add .ensures .1)
 
--- the number that the code finds
-found : (c : tie.After-refusal) → c .refusal .result ≡ refusal (bytes (c .before)) (coefficients (c .before)) (v (c .before)) (start (c .before) .args .lane)
-unfolding refusal
-found c = c .refusal .ensures ∙ (λ j. refusalOf (same-record (c .before) j .queued) (same-entries (c .before) j) (start (c .before) .args .lane))
+module _ (c : tie.After-refusal) where
+  abbrev number : ℕ
+  number = refusal (bytes (c .before)) (coefficients (c .before)) (v (c .before)) (start (c .before) .args .lane)
 
-dirty : (c : tie.After-to-add) → dirtyIn (bytes c) ≡ 0 → ⊥
-dirty c e = let r = c .before .before .before .before .before in r .if1 .left (r .before .read32 .ensures ∙ e)
+  -- the number that the code finds
+  found : c .refusal .result ≡ number
+  unfolding refusal
+  found =
+      c .refusal .ensures
+      ∙ (λ j. refusalOf (same-record (c .before) j .queued) (same-entries (c .before) j) (start (c .before) .args .lane))
+
+dirty : (c : tie.After-to-add) → eqb (dirtyIn (bytes c)) 0 ≡ false
+dirty c =
+    let r = c .before .before .before .before .before in
+    ne-eqb (dirtyIn (bytes c)) 0 (λ e. r .if1 .left (r .before .read32 .ensures ∙ e))
+
+clear-served-requires : tie.Need-clear-served-requires
+clear-served-requires c κs = start (c .before .before) .pre .0
+
+-- the bytes, cleared where that number is 0
+left : (c : tie.After-refusal) → cond (eqb (c .refusal .result) 0) (cleared (bytes (c .before))) (bytes (c .before))
+    ≡ bytesAfter (bytes (c .before)) (coefficients (c .before)) (v (c .before)) (start (c .before) .args .lane)
+unfolding bytesAfter
+left c =
+    let b = bytes (c .before) in
+    ap (λ (n : ℕ). cond (eqb n 0) (cleared b) b) (found c) ∙ sym (cond-no _ _ (dirty (c .before)))
 
 same-length-2 : tie.Need-same-length-2
 same-length-2 c = search needs
 
 returns-2 : tie.Need-returns-2
-unfolding configured bytesAfter
+unfolding configured
 returns-2 c =
-    let n = c .before in
-    let changed = ne-eqb (dirtyIn (bytes (n .before))) 0 (dirty (n .before)) in
-    let refused = ne-eqb _ 0 (λ e. c .if2 .taken (found n ∙ e)) in (
-      sym (cond-no _ _ changed ∙ cond-no _ _ refused ∙ (λ j. record { number = sym (found n) j; voice = v (n .before) })),
-      sym (cond-no _ _ changed ∙ cond-no _ _ refused),
+    let k = c .before .before .before in
+    let n = k .before .before in
+    let refused = ne-eqb (number n) 0 (λ e. c .if2 .taken (found n ∙ e)) in (
+      sym (cond-no _ _ (dirty (n .before)) ∙ cond-no _ _ refused ∙ (λ j. record { number = sym (found n) j; voice = v (n .before) })),
+      k .clear-served .ensures ∙ left n,
     )
 
 push-entries-requires : tie.Need-push-entries-requires
 push-entries-requires c κs =
-    let n = c .before in
+    let n = c .before .before .before .before .before in
     let t = n .before in
     let fits = room-for (w t .queued) (listedIn (t .to-add .result)) (start t .args .lane) (sym (n .refusal .ensures) ∙ c .if2 .left) in
     (t .to-add .ensures .1, omega (arith, fits, listed-long (t .to-add .result) (t .to-add .ok) (t .to-add .ensures .1)))
-
-clear-requires : tie.Need-clear-requires
-clear-requires c κs = start (c .before .before .before .before) .pre .0
 
 same-length-3 : tie.Need-same-length-3
 same-length-3 c = search needs
 
 returns-3 : tie.Need-returns-3
-unfolding configured bytesAfter parsed
+unfolding configured parsed
 returns-3 c =
-    let k = c .before .before in
-    let p = k .before .before in
-    let n = p .before .before in
+    let k = c .before .before .before .before in
+    let n = k .before .before in
     let t = n .before in
-    let changed = ne-eqb (dirtyIn (bytes t)) 0 (dirty t) in
-    let served = eq-eqb _ 0 (sym (found n) ∙ p .before .if2 .left) in
-    let record-is = p .push-entries .ensures ∙ (λ j. pushedAll (same-entries t j) (same-record t j)) in (
-      (λ j. record { number = 0; voice = record-is j }) ∙ sym (cond-no _ _ changed ∙ cond-yes _ _ served),
-      k .clear .ensures ∙ sym (cond-no _ _ changed ∙ cond-yes _ _ served),
+    let served = eq-eqb (number n) 0 (sym (found n) ∙ c .before .if2 .left) in
+    let record-is = c .push-entries .ensures ∙ (λ j. pushedAll (same-entries t j) (same-record t j)) in (
+      (λ j. record { number = 0; voice = record-is j }) ∙ sym (cond-no _ _ (dirty t) ∙ cond-yes _ _ served),
+      k .clear-served .ensures ∙ left n,
     )
 
 pub configure-spec : {M : Type 1} → statement M
@@ -130,9 +148,9 @@ configure-spec =
     settle-requires
     to-add-requires
     refusal-requires
+    clear-served-requires
     same-length-2
     returns-2
     push-entries-requires
-    clear-requires
     same-length-3
     returns-3)

@@ -20,10 +20,12 @@ lengthen-step-requires c κs =
     let f = c .before in
     let s = f .before .before in
     let e = c .stereo-step .ensures ∙ ap (stereoStep (s .args .bytes .now)) (f .format-step .ensures) in
-    let here : Room (s .args .v .queued) (s .args .v) = record { fits = s .pre .1; queue = le-refl (s .args .v .queued) } in (
+    let bytes = s .args .bytes .now in
+    let v = s .args .v in
+    let here : Room (v .queued) v = record { fits = s .pre .1; queue = le-refl (v .queued) } in (
       s .pre .0,
       subst (λ (w : Voice). w .remaining ≤ w .length) (sym e) (
-          stereo-room (s .args .bytes .now) (s .args .v .queued) _ (format-room (s .args .bytes .now) (s .args .v .queued) (s .args .v) here) .fits),
+          stereo-room bytes (v .queued) _ (format-room bytes (v .queued) v here) .fits),
     )
 
 returns : tie.Need-returns

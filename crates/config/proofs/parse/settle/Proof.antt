@@ -34,7 +34,8 @@ returns c =
     let s = p .before .before .before in
     let bytes = s .args .bytes .now in
     let cs = s .args .coefficients .now in
-    c .last-steps .ensures ∙ ap (inTurn (lastSteps bytes)) (b .sound-steps .ensures ∙ ap (inTurn (soundSteps bytes cs)) (p .play-steps .ensures))
+    c .last-steps .ensures
+    ∙ ap (inTurn (lastSteps bytes)) (b .sound-steps .ensures ∙ ap (inTurn (soundSteps bytes cs)) (p .play-steps .ensures))
 
 pub settle-spec : {M : Type 1} → statement M
 settle-spec =

@@ -20,7 +20,7 @@ use Rattle.settings.proofs.gains.gain_step.Tie as tie
 flag-requires : tie.Need-flag-requires
 flag-requires c κs =
     let s = c .before in
-    (s .pre .0, omega (arith, s .pre .2, one-le-pow (s .args .mix) 2 (omega arith)))
+    (s .pre .0, omega (arith, s .pre .1 .1, one-le-pow (s .args .mix) 2 (omega arith)))
 
 mul-at : tie.Need-mul-at
 mul-at c = search needs
@@ -52,13 +52,14 @@ returns c =
     let gains = b .with-four .ensures ∙ ap (λ (l : List Float). splice (v .gain) (m * 4) l) (b .before .gains-in .ensures) in
     let ramps = c .with-four2 .ensures ∙ ap (λ (l : List Float). splice (v .ramp) (m * 4) l) (f .four-from .ensures) in
     (λ j. set-voice-has-ramp (set (v .«has_ramp») m true) (set-voice-ramp (ramps j) (set-voice-gain (gains j) v)))
-    ∙ sym (cond-yes _ _ (ap (λ (n : ℕ). flag (now (s .args .bytes)) n) (sym (s .pre .2)) ∙ sym (t .before .flag .ensures) ∙ t .if1 .taken))
+    ∙ sym (cond-yes _ _ (ap (λ (n : ℕ). flag (now (s .args .bytes)) n) (sym (s .pre .1 .1))
+    ∙ sym (t .before .flag .ensures) ∙ t .if1 .taken))
 
 returns-2 : tie.Need-returns-2
 unfolding gainStep
 returns-2 c =
     let s = c .before .before .before in
-    sym (cond-no _ _ (ap (λ (n : ℕ). flag (now (s .args .bytes)) n) (sym (s .pre .2)) ∙ sym (c .before .flag .ensures) ∙ c .if1 .left))
+    sym (cond-no _ _ (ap (λ (n : ℕ). flag (now (s .args .bytes)) n) (sym (s .pre .1 .1)) ∙ sym (c .before .flag .ensures) ∙ c .if1 .left))
 
 pub gain-step-spec : {M : Type 1} → statement M
 gain-step-spec =

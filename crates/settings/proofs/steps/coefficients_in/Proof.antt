@@ -68,4 +68,6 @@ returns c =
     filling-all (table bytes) zeros (l .loop .all) (l .loop .i) (length-tabulate (number bytes) 16) (omega arith) (l .loop .inv)
 
 pub coefficients-in-spec : {M : Type 1} → statement M
-coefficients-in-spec = tie.close (tie.spec Inv-loop μ-loop loop-holds mul-signed-at signed-at-requires mul-all array-set-from-all add-i loop-less loop-again returns)
+coefficients-in-spec =
+    tie.close
+    (tie.spec Inv-loop μ-loop loop-holds mul-signed-at signed-at-requires mul-all array-set-from-all add-i loop-less loop-again returns)

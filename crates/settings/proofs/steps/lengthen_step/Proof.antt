@@ -36,8 +36,11 @@ returns c =
     let v = t .before .before .before .args .v in
     let played = v .length - v .remaining in
     let n = l .longer .ensures ∙ ap (λ (m : ℕ). max m played) (l .before .read-dsp32 .ensures) in
-    ap (λ (e : Entry). set-voice-length (l .longer .result) (set-voice-remaining (l .longer .result - played) (set-voice-playing e v))) (c .lengthened .ensures)
-    ∙ ap (λ (m : ℕ). set-voice-length m (set-voice-remaining (m - played) (set-voice-playing (cond (v .«has_playing») (set-entry-length m (v .playing)) (v .playing)) v))) n
+    ap (λ (e : Entry). set-voice-length (l .longer .result) (set-voice-remaining (l .longer .result - played) (set-voice-playing e v)))
+    (c .lengthened .ensures)
+    ∙ ap (λ (m : ℕ).
+    set-voice-length m (set-voice-remaining (m - played)
+    (set-voice-playing (cond (v .«has_playing») (set-entry-length m (v .playing)) (v .playing)) v))) n
     ∙ sym (cond-yes _ _ (sym (t .before .flag .ensures) ∙ t .if1 .taken))
 
 returns-2 : tie.Need-returns-2
@@ -46,4 +49,5 @@ returns-2 c =
     sym (cond-no _ _ (sym (c .before .flag .ensures) ∙ c .if1 .left))
 
 pub lengthen-step-spec : {M : Type 1} → statement M
-lengthen-step-spec = tie.close (tie.spec flag-requires sub-played read-dsp32-requires longer-requires lengthened-requires sub-w returns returns-2)
+lengthen-step-spec =
+    tie.close (tie.spec flag-requires sub-played read-dsp32-requires longer-requires lengthened-requires sub-w returns returns-2)

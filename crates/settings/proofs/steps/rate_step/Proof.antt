@@ -23,7 +23,8 @@ unfolding rateStep
 returns c =
     let t = c .before .before in
     let v = t .before .before .before .args .v in
-    ap (λ (x : Float). set-voice-rate x v) (c .rate-of .ensures ∙ ap rate (c .before .read32 .ensures)) ∙ sym (cond-yes _ _ (sym (t .before .flag .ensures) ∙ t .if1 .taken))
+    ap (λ (x : Float). set-voice-rate x v) (c .rate-of .ensures ∙ ap rate (c .before .read32 .ensures))
+    ∙ sym (cond-yes _ _ (sym (t .before .flag .ensures) ∙ t .if1 .taken))
 
 returns-2 : tie.Need-returns-2
 unfolding rateStep

@@ -1,4 +1,5 @@
--- `settings::steps::stereo_step` meets its contract: the flags decide, and the channels are those of the half that was read. Assumes nothing.
+-- `settings::steps::stereo_step` meets its contract: the flags decide, and the channels are those of the half that was read. Assumes
+-- nothing.
 use mathlib.Core.Path.{sym, ap, _∙_}
 use Prim.Native.Nat.{ℕ, _%_}
 use lib.Dec.{eqb}
