@@ -15,9 +15,9 @@
 // 660  a sum over every byte of region 0, and one of region 1, as words
 use layout::Layout;
 use little::read32;
+use mixer::tick::Mixed;
 use mixer_state::Mixer;
 use mixer_state::Output;
-use mixer::tick::Mixed;
 ghost use mathlib.Core.Path.{_≡_};
 ghost use Prim.Native.Nat.{_+_, _≤_};
 ghost use lib.ListN.{length};

@@ -9,7 +9,7 @@ use Rattle.voice.specs.Set.{set-voice-frame, set-voice-ran-out-at-frame-end}
 use Rattle.voice.specs.declared.record.Voice.{Voice}
 use Rattle.dequeue.specs.Dequeue.{dequeued, dequeuedLane}
 use Rattle.dequeue.specs.declared.Dequeued.{Dequeued}
-use Rattle.play.specs.Play.{Midst}
+use Rattle.play.specs.Play.{Midst, onward}
 
 -- as it is, or with the next entry dequeued where nothing remains
 unfoldable pub readied : List ℕ → ℕ → Voice → Dequeued
@@ -21,6 +21,10 @@ readiedLane window base v lane = cond (eqb (v .remaining) 0) (dequeuedLane windo
 -- a voice before the first sample of a frame
 abbrev pub entering : Voice → List ℤ → Midst
 entering v lane = record { voice = v; lane = lane; samples = []; dequeues = 0 }
+
+-- the same after as many samples as a frame has
+abbrev pub filled : List ℕ → ℕ → Voice → List ℤ → Midst
+filled window base v lane = onward window base «FRAME_SAMPLES» (entering v lane)
 
 -- a record with the frame that it played, of which so many samples were produced
 unfoldable pub closed : List ℤ → ℕ → Voice → Voice

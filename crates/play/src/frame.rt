@@ -12,11 +12,11 @@ ghost use mathlib.Core.Path.{_≡_};
 ghost use Prim.Native.Nat.{_≤_};
 ghost use lib.IntN.{pos};
 ghost use lib.ListN.{length, replicate};
-ghost use Rattle.numbers.specs.Sizes.{«FRAME_SAMPLES», FRAME};
+ghost use Rattle.numbers.specs.Sizes.{FRAME};
 ghost use Rattle.adpcm.specs.Sizes.{mostSamples};
 ghost use Rattle.voice.specs.Malformed.{WellFormed};
-ghost use Rattle.play.specs.Play.{frameOf, at, isSilent, opened, switchedOff, onward, silentFrame, playingFrame, played};
-ghost use Rattle.play.specs.Inner.{readied, readiedLane, entering, closed};
+ghost use Rattle.play.specs.Play.{frameOf, at, isSilent, opened, switchedOff, silentFrame, playingFrame, played};
+ghost use Rattle.play.specs.Inner.{readied, readiedLane, filled, closed};
 
 // What a frame comes to: the record, and how many samples were produced.
 pub struct Played {
@@ -98,12 +98,10 @@ fn play_entries(
     requires { ⌜ WellFormed (length (now lane)) v ⌝ }
     requires { ⌜ length (now lane) ≤ mostSamples ⌝ }
     requires { ⌜ now frame ≡ replicate FRAME (pos 0) ⌝ }
-    ensures record { λ r. ⌜ r .voice ≡ onward (now (window .entry)) base «FRAME_SAMPLES» (entering v (now (lane .entry))) .voice ⌝ }
-    ensures lane { λ _. ⌜ now (lane .exit) ≡ onward (now (window .entry)) base «FRAME_SAMPLES» (entering v (now (lane .entry))) .lane ⌝ }
-    ensures frame { λ _. ⌜ now (frame .exit) ≡
-        frameOf (onward (now (window .entry)) base «FRAME_SAMPLES» (entering v (now (lane .entry))) .samples) ⌝ }
-    ensures produced { λ r. ⌜ r .produced ≡
-        length (onward (now (window .entry)) base «FRAME_SAMPLES» (entering v (now (lane .entry))) .samples) ⌝ }
+    ensures record { λ r. ⌜ r .voice ≡ filled (now (window .entry)) base v (now (lane .entry)) .voice ⌝ }
+    ensures lane { λ _. ⌜ now (lane .exit) ≡ filled (now (window .entry)) base v (now (lane .entry)) .lane ⌝ }
+    ensures frame { λ _. ⌜ now (frame .exit) ≡ frameOf (filled (now (window .entry)) base v (now (lane .entry)) .samples) ⌝ }
+    ensures produced { λ r. ⌜ r .produced ≡ length (filled (now (window .entry)) base v (now (lane .entry)) .samples) ⌝ }
 {
     let mut w = v;
     let mut output = 0;
