@@ -35,7 +35,7 @@ use Rattle.voice.specs.Set.{set-entry-length}
 use Rattle.voice.specs.declared.record.Entry.{Entry}
 use Rattle.voice.specs.declared.record.Format.{Format}
 use Rattle.voice.specs.declared.record.Voice.{Voice}
-use Rattle.voice.proofs.Range.{unsigned-below, below-unsigned, test-in-range, in-range-test, history-in-range, simple-in-32, biquad-in-32, zero-single, one-double, default-in-range}
+use Rattle.voice.proofs.Range.{below-unsigned, byte-below, half-signed, test-in-range, in-range-test, history-in-range, simple-in-32, biquad-in-32, zero-single, one-double, default-in-range}
 use Rattle.settings.specs.Dirty.{flag, FORMAT, «MONO_OR_STEREO», «ADPCM_COEFFICIENTS», «PARTIAL_EMBEDDED_BUFFER», «PARTIAL_RESET», ENABLE, INTERPOLATION, «RATE_MULTIPLIER», «PLAY_POSITION», «FILTERS_ENABLED», «SIMPLE_FILTER», «BIQUAD_FILTER», GAIN, «SYNC_COUNT», RESET, «EMBEDDED_BUFFER»}
 use Rattle.settings.specs.Steps.{half, resetStep, partialResetStep, enableStep, syncStep, rateStep, interpolationStep, coefficientsStep, gainStep, enabledFilters, simpleFilters, biquadFilters, filtersStep, formatStep, stereoStep, lengthenStep}
 use Rattle.config.specs.Entries.{historyAt, positionIn, embedded, slotEntry}
@@ -71,20 +71,9 @@ unfolding signed
 wider (pos n) t = let l : n < 32768 = ltb-true n 32768 t in lt-ltb n 2147483648 (omega arith)
 wider (negsuc n) t = let l : n < 32768 = ltb-true n 32768 t in lt-ltb n 2147483648 (omega arith)
 
-half-signed : (k : ℕ) → k < 65536 → signed 16 (signed16 k) ≡ true
-unfolding signed
-half-signed k h = by (ltb k 32768) refl
-  where
-    by : (b : Bool) → ltb k 32768 ≡ b → signed 16 (cond b (pos k) (negsuc (65535 - k))) ≡ true
-    by true e = e
-    by false e = let g : 32768 ≤ k = ltb-false k 32768 e in lt-ltb (65535 - k) 32768 (omega arith)
-
 module _ (s : List ℕ) (bytes : every isByte s ≡ true) where
-  byte-below : (at : ℕ) → getD s at 0 < 256
-  byte-below at = unsigned-below 8 (getD s at 0) (every-at isByte s at 0 bytes (below-unsigned 8 0 (omega arith)))
-
   below-16 : (at : ℕ) → at16 s at < 65536
-  below-16 at = omega (arith, byte-below at, byte-below (at + 1))
+  below-16 at = omega (arith, byte-below s bytes at, byte-below s bytes (at + 1))
 
   below-dsp32 : (at : ℕ) → atDsp32 s at < 4294967296
   below-dsp32 at = omega (arith, below-16 at, below-16 (at + 2))
