@@ -1,22 +1,22 @@
 -- Where bytes are read, a configuration leaves values of their types in a record's fields: each step stores one that bytes can give, and so does
 -- queueing an entry. Assumes nothing.
 use mathlib.Core.Path.{_≡_, refl, _∙_}
-use mathlib.Core.Bool.{Bool, true, false, not, _&&_, _||_, cond}
+use mathlib.Core.Bool.{Bool, true, not, _&&_, _||_, cond}
 use mathlib.Core.List.{List, [], _∷_, List·Memᴰ}
-use Prim.Native.Nat.{ℕ, max, _+_, _*_, _-_, _/_, _%_, _^_, _<_, _≤_}
+use Prim.Native.Nat.{ℕ, max, _+_, _*_, _-_, _/_, _%_, _^_, _<_}
 use native.Mathlib.Omega.{arith}
-use lib.Dec.{T, eqb, ltb}
+use lib.Dec.{eqb}
 use lib.Ieee.{Float, fits, ofBits, binary32, binary64}
 use lib.Ieee.Bits.{ofBits-fits}
 use lib.Ieee.Fits.{fits-widens}
 use lib.Ieee.Scale.{finite}
 use lib.IntN.{ℤ, pos, negsuc}
 use lib.ListN.{getD, set, replicate}
-use borrow.Author.Tests.{lt-ltb, ltb-true, ltb-false}
+use borrow.Author.Tests.{lt-ltb, ltb-true}
 use Rattle.lists.specs.Some.{every}
 use Rattle.lists.specs.Splice.{part, splice}
 use Rattle.lists.specs.Tabulate.{tabulate}
-use Rattle.lists.proofs.Bools.{and-yes, cond-either}
+use Rattle.lists.proofs.Bools.{and-yes, cond-either, is-true}
 use Rattle.lists.proofs.Some.{every-cons, every-at, every-set, every-splice, every-part, every-tabulate, every-replicate}
 use Rattle.numbers.specs.Bits.{gain, rate}
 use Rattle.numbers.specs.Literals.{+0, +1}
@@ -46,10 +46,6 @@ use Rattle.config.proofs.Kept.{whole-keeps}
 use Rattle.config.proofs.Settled.{all-added}
 
 -- ---- floats from any bits
-
-is-true : (b : Bool) → T b → b ≡ true
-is-true true t = refl
-is-true false t = absurd t
 
 gain-single : (bits : ℕ) → fits binary32 (gain bits) ≡ true
 unfolding gain
