@@ -5,10 +5,13 @@ use Rattle.mixing.specs.Interpolate.{interpolate}
 use Rattle.adpcm.specs.Code.{sumOf}
 use Rattle.adpcm.specs.Adpcm.{sampleOf}
 use Rattle.adpcm.specs.Public.{publicSum, publicSample}
+use Rattle.voice.specs.Blank.{blankEntry, defaultVoice}
+use Rattle.queue.specs.Removal.{without, removed}
+use Rattle.queue.specs.Search.{least, searched}
 use Rattle.cases.specs.Starred.{StarredCasesHold}
 
 pub starred-cases-hold : StarredCasesHold
-unfolding sampleOf sumOf publicSample publicSum interpolate ofInt add sub mul toSigned
+unfolding searched least removed without blankEntry sampleOf sumOf publicSample publicSum interpolate ofInt add sub mul toSigned
 starred-cases-hold = record {
   holds = (
     refl,
@@ -20,7 +23,7 @@ starred-cases-hold = record {
           refl,
           (
             refl,
-            (refl, ((refl, refl), ((refl, refl), ((refl, refl), ((refl, refl), (refl, (refl, (refl, tt)))))))),
+            (refl, ((refl, refl), ((refl, refl), ((refl, refl), ((refl, refl), (refl, (refl, ((refl, refl), (refl, tt))))))))),
           ),
         ),
       ),

@@ -1,11 +1,11 @@
 -- The starred cases of document 01, "Checked by hand", in its order, and the claim that the definitions agree with every one.
 -- `proofs/Starred.antt` proves the claim. A case is an input with its outcome; another kind of case is one constructor and one line of
 -- `Agrees` more. Assumes nothing.
-use Prim.Native.Nat.{ℕ}
+use Prim.Native.Nat.{ℕ, _-_}
 use mathlib.Core.Path.{_≡_}
 use mathlib.Core.Bool.{false}
-use mathlib.Core.List.{List, [], _∷_}
-use lib.ListN.{replicate}
+use mathlib.Core.List.{List, [], _∷_, _++_, map}
+use lib.ListN.{length, replicate}
 use lib.Ieee.{Float, fin}
 use lib.IntN.{ℤ, pos, negsuc}
 use Rattle.numbers.specs.Casts.{single}
@@ -16,6 +16,13 @@ use Rattle.adpcm.specs.declared.History.{History}
 use Rattle.adpcm.specs.Code.{decodedSamples, decodedHistory}
 use Rattle.adpcm.specs.Adpcm.{sampleOf}
 use Rattle.adpcm.specs.Public.{publicSamples}
+use Rattle.voice.specs.Blank.{places, blankEntry, defaultVoice}
+use Rattle.voice.specs.Malformed.{queuedIn}
+use Rattle.voice.specs.Set.{set-entry-id, set-voice-queue, set-voice-queued}
+use Rattle.voice.specs.declared.record.Voice.{Voice}
+use Rattle.queue.specs.Removal.{removed}
+use Rattle.queue.specs.Search.{searched}
+use Rattle.queue.specs.declared.Found.the-variants.{At}
 
 abbrev history : ℤ → ℤ → History
 history yn1 yn2 = record { yn1 = yn1; yn2 = yn2 }
@@ -30,6 +37,12 @@ oneAndAHalf = fin false 3 (negsuc 0)
 abbrev 2^24 : Float
 2^24 = fin false 1 (pos 24)
 
+-- a voice whose queue holds entries of these ids, which are otherwise blank, and blanks past them
+abbrev voiceOf : List ℕ → Voice
+voiceOf ids =
+    set-voice-queued (length ids)
+    (set-voice-queue (map (λ id. set-entry-id id blankEntry) ids ++ replicate (places - length ids) blankEntry) defaultVoice)
+
 pub data Case : Type 0 where
   -- two counters, and the region chosen
   counters : (first second region : ℕ) → Case
@@ -41,6 +54,8 @@ pub data Case : Type 0 where
   step : (coefficients : List ℤ) (h : History) (frame : List ℕ) (sample published : ℤ) → Case
   -- two samples and a fraction of the way, and the sample there
   between : (a b : ℤ) (fraction : Float) (sample : ℤ) → Case
+  -- the ids of a queue, the place that its search finds, and the ids after the entry there was removed
+  queued : (ids : List ℕ) (place : ℕ) (left : List ℕ) → Case
   -- a whole number, and the float it is rounded to
   rounded : (n : ℤ) (x : Float) → Case
 
@@ -53,6 +68,8 @@ Agrees (decode coefficients h bytes count samples last) =
 Agrees (step coefficients h frame sample published) =
     (decodedSamples sampleOf coefficients h frame 1 ≡ sample ∷ []) × (publicSamples coefficients h frame 1 ≡ published ∷ [])
 Agrees (between a b fraction sample) = interpolate a b fraction ≡ sample
+Agrees (queued ids place left) =
+    (searched (voiceOf ids .queue) (voiceOf ids .queued) ≡ At place) × (map (λ e. e .id) (queuedIn (removed place (voiceOf ids))) ≡ left)
 Agrees (rounded n x) = single n ≡ x
 
 abbrev pub starred : List Case
@@ -70,6 +87,7 @@ starred =
     ∷ step (replicate 16 (pos 0)) (history (pos 0) (pos 0)) (15 ∷ 128 ∷ replicate 6 0) (negsuc 32767) (negsuc 32767)
     ∷ between (pos 0) (negsuc 2) half (negsuc 0)
     ∷ between (pos 0) (pos 100) oneAndAHalf (pos 150)
+    ∷ queued (7 ∷ 3 ∷ 3 ∷ []) 1 (7 ∷ 3 ∷ [])
     ∷ rounded (pos 16777217) 2^24
     ∷ []
 

@@ -1,22 +1,22 @@
 -- Where bytes are read, a configuration leaves values of their types in a record's fields: each step stores one that bytes can give, and so
 -- does queueing an entry. Assumes nothing.
 use mathlib.Core.Path.{_≡_, refl, _∙_}
-use mathlib.Core.Bool.{Bool, true, false, not, _&&_, _||_, cond}
+use mathlib.Core.Bool.{Bool, true, not, _&&_, _||_, cond}
 use mathlib.Core.List.{List, [], _∷_, List·Memᴰ}
-use Prim.Native.Nat.{ℕ, max, _+_, _*_, _-_, _/_, _%_, _^_, _<_, _≤_}
+use Prim.Native.Nat.{ℕ, max, _+_, _*_, _-_, _/_, _%_, _^_, _<_}
 use native.Mathlib.Omega.{arith}
-use lib.Dec.{T, eqb, ltb}
+use lib.Dec.{eqb}
 use lib.Ieee.{Float, fits, ofBits, binary32, binary64}
 use lib.Ieee.Bits.{ofBits-fits}
 use lib.Ieee.Fits.{fits-widens}
 use lib.Ieee.Scale.{finite}
 use lib.IntN.{ℤ, pos, negsuc}
 use lib.ListN.{getD, set, replicate}
-use borrow.Author.Tests.{lt-ltb, ltb-true, ltb-false}
+use borrow.Author.Tests.{lt-ltb, ltb-true}
 use Rattle.lists.specs.Some.{every}
 use Rattle.lists.specs.Splice.{part, splice}
 use Rattle.lists.specs.Tabulate.{tabulate}
-use Rattle.lists.proofs.Bools.{and-yes, cond-either}
+use Rattle.lists.proofs.Bools.{and-yes, cond-either, is-true}
 use Rattle.lists.proofs.Some.{every-cons, every-at, every-set, every-splice, every-part, every-tabulate, every-replicate}
 use Rattle.numbers.specs.Bits.{gain, rate}
 use Rattle.numbers.specs.Literals.{+0, +1}
@@ -36,8 +36,8 @@ use Rattle.voice.specs.Set.{set-entry-length}
 use Rattle.voice.specs.declared.record.Entry.{Entry}
 use Rattle.voice.specs.declared.record.Format.{Format}
 use Rattle.voice.specs.declared.record.Voice.{Voice}
-use Rattle.voice.proofs.Range.{unsigned-below, below-unsigned, test-in-range, in-range-test, history-in-range, simple-in-32, biquad-in-32}
-use Rattle.voice.proofs.Range.{zero-single, one-double, default-in-range}
+use Rattle.voice.proofs.Range.{below-unsigned, byte-below, half-signed, test-in-range, in-range-test, history-in-range, simple-in-32}
+use Rattle.voice.proofs.Range.{biquad-in-32, zero-single, one-double, default-in-range}
 use Rattle.settings.specs.Dirty.{flag, FORMAT, «MONO_OR_STEREO», «ADPCM_COEFFICIENTS», «PARTIAL_EMBEDDED_BUFFER», «PARTIAL_RESET», ENABLE}
 use Rattle.settings.specs.Dirty.{INTERPOLATION, «RATE_MULTIPLIER», «PLAY_POSITION», «FILTERS_ENABLED», «SIMPLE_FILTER», «BIQUAD_FILTER»}
 use Rattle.settings.specs.Dirty.{GAIN, «SYNC_COUNT», RESET, «EMBEDDED_BUFFER»}
@@ -52,10 +52,6 @@ use Rattle.config_laws.proofs.Kept.{whole-keeps}
 use Rattle.config_laws.proofs.Settled.{all-added}
 
 -- ---- floats from any bits
-
-is-true : (b : Bool) → T b → b ≡ true
-is-true true t = refl
-is-true false t = absurd t
 
 gain-single : (bits : ℕ) → fits binary32 (gain bits) ≡ true
 unfolding gain
@@ -77,20 +73,9 @@ unfolding signed
 wider (pos n) t = let l : n < 32768 = ltb-true n 32768 t in lt-ltb n 2147483648 (omega arith)
 wider (negsuc n) t = let l : n < 32768 = ltb-true n 32768 t in lt-ltb n 2147483648 (omega arith)
 
-half-signed : (k : ℕ) → k < 65536 → signed 16 (signed16 k) ≡ true
-unfolding signed
-half-signed k h = by (ltb k 32768) refl
-  where
-    by : (b : Bool) → ltb k 32768 ≡ b → signed 16 (cond b (pos k) (negsuc (65535 - k))) ≡ true
-    by true e = e
-    by false e = let g : 32768 ≤ k = ltb-false k 32768 e in lt-ltb (65535 - k) 32768 (omega arith)
-
 module _ (s : List ℕ) (bytes : every isByte s ≡ true) where
-  byte-below : (at : ℕ) → getD s at 0 < 256
-  byte-below at = unsigned-below 8 (getD s at 0) (every-at isByte s at 0 bytes (below-unsigned 8 0 (omega arith)))
-
   below-16 : (at : ℕ) → at16 s at < 65536
-  below-16 at = omega (arith, byte-below at, byte-below (at + 1))
+  below-16 at = omega (arith, byte-below s bytes at, byte-below s bytes (at + 1))
 
   below-dsp32 : (at : ℕ) → atDsp32 s at < 4294967296
   below-dsp32 at = omega (arith, below-16 at, below-16 (at + 2))

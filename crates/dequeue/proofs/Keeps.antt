@@ -6,7 +6,6 @@ use mathlib.Core.Logic.{_⊎_, inl, inr, ⊎-elim}
 use Prim.Native.Nat.{ℕ, _+_, _-_, _*_, _≤_, _<_}
 use native.Mathlib.Decide.{ℕ-discrete}
 use native.Mathlib.Omega.{arith}
-use lib.Ieee.{lt, isNan}
 use lib.IntN.{ℤ}
 use lib.ListN.{length, getD, set, drop, length-append, length-drop, length-set}
 use lib.Seq.{getD-set-same, getD-set-other}
@@ -31,6 +30,7 @@ use Rattle.queue.proofs.Least.{found-queued}
 use Rattle.queue.proofs.Removal.{without-length, without-before, without-next}
 use Rattle.numbers.specs.Literals.{+0}
 use Rattle.numbers.specs.Tests.{is-rate, is-fraction}
+use Rattle.numbers.proofs.Literals.{zero-fraction}
 use Rattle.filters.specs.Range.{filtersInRange}
 use Rattle.adpcm.specs.declared.History.{History}
 use Rattle.voice.specs.Set.{set-voice-history, set-voice-queue, set-voice-decoded}
@@ -38,11 +38,6 @@ use Rattle.dequeue.specs.Dequeue.{entryAt, taken, withHistory, begunAt, 
 use Rattle.dequeue.specs.Dequeue.{decodedVoice, decodedLane}
 use Rattle.dequeue.specs.Dequeue.{preparedVoice, preparedLane, ready, dequeuedBy, laneBy, dequeued, dequeuedLane}
 use Rattle.dequeue.proofs.Laws.{fits-lane}
-
--- 0.0 is a fraction
-zero-ok : is-fraction +0 ≡ true
-unfolding is-fraction lt isNan
-zero-ok = refl
 
 -- ---- the entry leaves, or is marked
 
@@ -147,7 +142,7 @@ module _ (L : ℕ) (v : Voice) (w : WellFormed L v) (long : length (v .queue) �
     decoded = fits;
     entries = b .leaves .entries;
     rate = ap is-rate (b .leaves .rate) ∙ w .rate;
-    fraction = ap is-fraction (b .fraction) ∙ zero-ok;
+    fraction = ap is-fraction (b .fraction) ∙ zero-fraction;
     filters = ap filtersInRange (b .leaves .filters) ∙ w .filters;
   }
 

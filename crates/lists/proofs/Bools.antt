@@ -67,7 +67,11 @@ pub passed : (x : Bool) (n rest : ℕ) → cond x (suc n) rest ≡ 0 → (x ≡ 
 passed true n rest e = absurd (omega arith)
 passed false n rest e = (refl, e)
 
--- a test of two that is taken as a fact
+-- a test that is taken as a fact, and one of two
+pub is-true : (b : Bool) → T b → b ≡ true
+is-true true t = refl
+is-true false t = absurd t
+
 pub and-left : (x y : Bool) → T (x && y) → T x
 and-left true y t = tt
 and-left false y t = t

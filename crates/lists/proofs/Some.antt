@@ -130,12 +130,12 @@ module _ {A : Type 0} (test : A → Bool) where
   unfolding splice
   every-splice xs a new e f = every-sets xs a new e f
 
-  every-take : (n : ℕ) (xs : List A) → every test xs ≡ true → every test (take n xs) ≡ true
+  pub every-take : (n : ℕ) (xs : List A) → every test xs ≡ true → every test (take n xs) ≡ true
   every-take zero xs e = refl
   every-take (suc n) [] e = refl
   every-take (suc n) (x ∷ xs) e = let both = every-split x xs e in every-cons x (take n xs) (both .0) (every-take n xs (both .1))
 
-  every-drop : (n : ℕ) (xs : List A) → every test xs ≡ true → every test (drop n xs) ≡ true
+  pub every-drop : (n : ℕ) (xs : List A) → every test xs ≡ true → every test (drop n xs) ≡ true
   every-drop zero xs e = e
   every-drop (suc n) [] e = refl
   every-drop (suc n) (x ∷ xs) e = every-drop n xs (every-split x xs e .1)

@@ -2,9 +2,10 @@
 use mathlib.Core.Path.{_≡_, refl}
 use mathlib.Core.Bool.{true, false}
 use lib.IntN.{pos}
-use lib.Ieee.{inf, fin, binary32, binary64, ofBits, div, neg}
+use lib.Ieee.{inf, fin, binary32, binary64, ofBits, div, neg, lt, isNan}
 use Rattle.numbers.specs.Literals.{+0, +1}
 use Rattle.numbers.specs.Held.{top, bottom, top-u32}
+use Rattle.numbers.specs.Tests.{is-fraction}
 use Rattle.numbers.proofs.Floor.{big}
 
 pub zero-32 : ofBits binary32 0 ≡ +0
@@ -66,3 +67,8 @@ bottom-64 = refl
 pub top-u32-is : ofBits binary64 0x41ef_ffff_ffe0_0000 ≡ top-u32
 unfolding ofBits
 top-u32-is = refl
+
+-- 0.0 is a fraction
+pub zero-fraction : is-fraction +0 ≡ true
+unfolding is-fraction lt isNan
+zero-fraction = refl

@@ -14,6 +14,7 @@ use Rattle.steps.specs.declared.step.Cursor.{Cursor}
 use Rattle.steps.specs.declared.stretch.Reached.{Reached}
 use Rattle.steps.specs.Stretch.{after}
 use Rattle.numbers.specs.Tests.{is-fraction}
+use Rattle.steps.proofs.Compose.{after-less}
 use Rattle.steps.proofs.Kept.{moved-ok}
 use Rattle.voice.specs.Blank.{places}
 use Rattle.voice.specs.Malformed.{WellFormed}
@@ -27,7 +28,7 @@ use Rattle.dequeue.specs.declared.Dequeued.{Dequeued}
 use Rattle.dequeue.proofs.Keeps.{dequeued-formed, dequeued-places, dequeued-lane-long}
 use Rattle.track.specs.Track.{trackOf, cursorOf}
 use Rattle.track.specs.Laid.{laid, Turned}
-use Rattle.track.proofs.Onward.{after-less, after-suc}
+use Rattle.track.proofs.Onward.{after-suc}
 use Rattle.play.specs.Play.{Midst, at, frameOf, opened, sounded, begunNext, next, onward}
 use Rattle.play.specs.Inner.{readied, readiedLane}
 use Rattle.play.proofs.Laying.{frame-none, heard, heard-long, laid-frame}
@@ -49,7 +50,7 @@ opened-formed L v w = record {
 module _ (window : List ℕ) (base : ℕ) where
   -- ---- with nothing queued, a dequeue changes nothing
 
-  none-lane : (v : Voice) (lane : List ℤ) → dequeued window base v .found ≡ false → dequeuedLane window base v lane ≡ lane
+  pub none-lane : (v : Voice) (lane : List ℤ) → dequeued window base v .found ≡ false → dequeuedLane window base v lane ≡ lane
   unfolding dequeued dequeuedLane
   none-lane v lane = by (searched (v .queue) (v .queued))
     where
@@ -127,7 +128,7 @@ module _ (window : List ℕ) (base : ℕ) where
       → WellFormed L (at (after (v .rate) n (cursorOf v)) v)
   moved-formed L v n w h = record {
     queued = w .queued;
-    remaining = omega (arith, after-less (trackOf v) (cursorOf v) n, w .remaining);
+    remaining = omega (arith, after-less (v .rate) n (cursorOf v), w .remaining);
     decoded = w .decoded;
     entries = w .entries;
     rate = w .rate;

@@ -17,10 +17,10 @@ use Rattle.track.specs.Laid.{put, laid}
 use Rattle.play.specs.Play.{sides, frameOf}
 
 -- the values of so many samples
-values-long : (samples : List Sample) → length (flatMap sides samples) ≡ length samples * 2
+pub values-long : (samples : List Sample) → length (flatMap sides samples) ≡ length samples * 2
 values-long samples = length-chunks sides 2 (λ s. refl) samples
 
-values-more : (samples : List Sample) (s : Sample) → flatMap sides (samples ++ (s ∷ [])) ≡ flatMap sides samples ++ sides s
+pub values-more : (samples : List Sample) (s : Sample) → flatMap sides (samples ++ (s ∷ [])) ≡ flatMap sides samples ++ sides s
 unfolding flatMap
 values-more [] s = append-nil (sides s)
 values-more (x ∷ samples) s = ap (λ (l : List ℤ). x .left ∷ x .right ∷ l) (values-more samples s)

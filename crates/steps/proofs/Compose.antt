@@ -1,8 +1,10 @@
--- One stretch after another is one stretch: the cursors, the frame, and that each place on the way is inside. Assumes nothing.
+-- One stretch after another is one stretch: the cursors, the frame, and that each place on the way is inside. What remains never grows on the
+-- way. Assumes nothing.
 use mathlib.Core.Path.{_≡_, ap, _∙_, subst}
 use mathlib.Core.Logic.{⊎-elim}
 use mathlib.Core.List.{List}
 use Prim.Native.Nat.{ℕ, zero, suc, _+_, _-_, _≤_, _<_}
+use native.Mathlib.Nat.{le-trans}
 use native.Mathlib.Omega.{arith}
 use lib.IntN.{ℤ}
 use lib.Ieee.{Float}
@@ -16,6 +18,16 @@ next n m = omega arith
 
 none : (n : ℕ) → n ≡ n + 0
 none n = omega arith
+
+-- a step leaves no more than there was
+pub moved-less : (rate : Float) (c : Cursor) → moved rate c .remaining ≤ c .remaining
+unfolding moved
+moved-less rate c = omega arith
+
+pub after-less : (rate : Float) (n : ℕ) (c : Cursor) → after rate n c .remaining ≤ c .remaining
+unfolding after
+after-less rate zero c = omega arith
+after-less rate (suc n) c = le-trans (moved-less rate (after rate n c)) (after-less rate n c)
 
 module _ (rate : Float) (c : Cursor) (n : ℕ) where
   pub after-add : (m : ℕ) → after rate m (after rate n c) ≡ after rate (n + m) c

@@ -16,16 +16,7 @@ use Rattle.mixing.specs.Interpolate.{interpolate}
 use Rattle.steps.specs.declared.step.Cursor.{Cursor}
 use Rattle.steps.specs.Step.{moved, left, consumed}
 use Rattle.steps.specs.Stretch.{after, between, both, played}
-
--- a step leaves no more than there was
-moved-less : (rate : Float) (c : Cursor) → moved rate c .remaining ≤ c .remaining
-unfolding moved
-moved-less rate c = omega arith
-
-after-less : (rate : Float) (n : ℕ) (c : Cursor) → after rate n c .remaining ≤ c .remaining
-unfolding after
-after-less rate zero c = omega arith
-after-less rate (suc n) c = le-trans (moved-less rate (after rate n c)) (after-less rate n c)
+use Rattle.steps.proofs.Compose.{after-less}
 
 module _ (rate : Float) (d : ℕ) where
   -- the same place with d samples more to come

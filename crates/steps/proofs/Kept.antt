@@ -13,6 +13,7 @@ use lib.Ieee.Back.{whole-unique}
 use Rattle.numbers.specs.Literals.{+0}
 use Rattle.numbers.specs.Held.{at-least-0}
 use Rattle.numbers.specs.Tests.{is-fraction}
+use Rattle.numbers.proofs.Literals.{zero-fraction}
 use Rattle.steps.specs.declared.step.Cursor.{Cursor}
 use Rattle.steps.specs.Step.{moved, left}
 
@@ -25,16 +26,12 @@ above-ok (inf false) h = refl
 above-ok (fin true m e) h = absurd (true≢false (sym h))
 above-ok (fin false m e) h = rw (le-ltb (m * up e * 1) (0 * 1 * down e) (omega arith))
 
-zero-ok : is-fraction +0 ≡ true
-unfolding is-fraction lt isNan
-zero-ok = refl
-
 pub at-least-0-ok : (x : Float) → is-fraction (at-least-0 x) ≡ true
 at-least-0-ok x = go (lt +0 x) refl
   where
     go : (b : Bool) → lt +0 x ≡ b → is-fraction (cond b x +0) ≡ true
     go true h = above-ok x h
-    go false h = zero-ok
+    go false h = zero-fraction
 
 pub moved-ok : (rate : Float) (c : Cursor) → is-fraction (moved rate c .fraction) ≡ true
 unfolding moved left

@@ -32,16 +32,6 @@ pub after-suc : (t : Track) (c : Cursor) (n : ℕ) → after (t .rate) (suc n) c
 unfolding after
 after-suc t c n = refl
 
--- what remains never grows
-pub moved-less : (t : Track) (c : Cursor) → moved (t .rate) c .remaining ≤ c .remaining
-unfolding moved
-moved-less t c = omega arith
-
-pub after-less : (t : Track) (c : Cursor) (n : ℕ) → after (t .rate) n c .remaining ≤ c .remaining
-unfolding after
-after-less t c zero = omega arith
-after-less t c (suc n) = omega (arith, moved-less t (after (t .rate) n c), after-less t c n)
-
 module _ (window : List ℕ) (base : ℕ) (lane : List ℤ) (t : Track) where
   pub put-length : (frame : List ℤ) (k : ℕ) (s : Sample) → length (put frame k s) ≡ length frame
   unfolding put

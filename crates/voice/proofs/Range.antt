@@ -1,20 +1,24 @@
 -- A record passes the tests of its types exactly where what they ask is known of it, both ways; the default voice passes them. By taking
 -- the tests apart one by one. Assumes nothing.
-use Prim.Native.Nat.{ℕ, _^_, _<_}
-use mathlib.Core.Bool.{true}
+use Prim.Native.Nat.{ℕ, _-_, _^_, _≤_, _<_}
+use mathlib.Core.Bool.{Bool, true, false, cond}
+use mathlib.Core.List.{List}
 use mathlib.Core.Path.{_≡_, refl, _∙_}
+use lib.Dec.{ltb}
 use lib.Ieee.{fits, binary32, binary64}
-use lib.IntN.{pos}
+use lib.IntN.{pos, negsuc}
 use lib.ListN.{length, getD, length-replicate}
 use native.Mathlib.Omega.{arith}
-use borrow.Author.Tests.{lt-ltb, ltb-true, eq-eqb, eqb-true}
+use borrow.Author.Tests.{lt-ltb, ltb-true, ltb-false, eq-eqb, eqb-true}
+use Rattle.lists.specs.Some.{every}
 use Rattle.lists.proofs.Bools.{and-yes, and-both}
 use Rattle.lists.proofs.Some.{every-at, every-replicate}
 use Rattle.numbers.specs.Literals.{+0, +1}
+use Rattle.numbers.specs.Wrap.{signed16}
 use Rattle.filters.specs.Defaults.{defaultSimple, defaultBiquad}
 use Rattle.voice.specs.declared.record.Voice.{Voice}
 use Rattle.voice.specs.Blank.{places, blankHistory, blankEntry, defaultVoice}
-use Rattle.voice.specs.Range.{unsigned, signed, historyInRange, entryInRange, simpleIn32, biquadIn32, rangeTests, inRange, InRange}
+use Rattle.voice.specs.Range.{isByte, unsigned, signed, historyInRange, entryInRange, simpleIn32, biquadIn32, rangeTests, inRange, InRange}
 use Rattle.voice.specs.Range.{sized, Sized}
 
 -- ---- a number
@@ -26,6 +30,19 @@ unsigned-below bits n t = ltb-true n (2 ^ bits) t
 pub below-unsigned : (bits n : ℕ) → n < 2 ^ bits → unsigned bits n ≡ true
 unfolding unsigned
 below-unsigned bits n h = lt-ltb n (2 ^ bits) h
+
+-- ---- a byte, and 16 bits read as a sample
+
+pub byte-below : (s : List ℕ) → every isByte s ≡ true → (at : ℕ) → getD s at 0 < 256
+byte-below s bytes at = unsigned-below 8 (getD s at 0) (every-at isByte s at 0 bytes (below-unsigned 8 0 (omega arith)))
+
+pub half-signed : (k : ℕ) → k < 65536 → signed 16 (signed16 k) ≡ true
+unfolding signed
+half-signed k h = by (ltb k 32768) refl
+  where
+    by : (b : Bool) → ltb k 32768 ≡ b → signed 16 (cond b (pos k) (negsuc (65535 - k))) ≡ true
+    by true e = e
+    by false e = let g : 32768 ≤ k = ltb-false k 32768 e in lt-ltb (65535 - k) 32768 (omega arith)
 
 -- ---- both ways
 
@@ -140,7 +157,7 @@ pub biquad-in-32 : biquadIn32 defaultBiquad ≡ true
 unfolding biquadIn32 signed
 biquad-in-32 = refl
 
-zero-sample : signed 16 (pos 0) ≡ true
+pub zero-sample : signed 16 (pos 0) ≡ true
 unfolding signed
 zero-sample = refl
 
@@ -148,7 +165,7 @@ pub zero-single : fits binary32 +0 ≡ true
 unfolding fits
 zero-single = refl
 
-zero-double : fits binary64 +0 ≡ true
+pub zero-double : fits binary64 +0 ≡ true
 unfolding fits
 zero-double = refl
 

@@ -13,7 +13,8 @@ use Rattle.steps.specs.declared.step.Cursor.{Cursor}
 use Rattle.samples.specs.declared.Sample.{Sample}
 use Rattle.track.specs.Track.{soundOf}
 use Rattle.track.specs.Laid.{put, laid, Onward, Turned}
-use Rattle.track.proofs.Onward.{onward-none, onward-more, turned-last, moved-less, laid-none, laid-more, laid-length}
+use Rattle.steps.proofs.Compose.{moved-less}
+use Rattle.track.proofs.Onward.{onward-none, onward-more, turned-last, laid-none, laid-more, laid-length}
 use Rattle.play.proofs.entry.play_entry.Statement.{statement}
 use Rattle.play.proofs.entry.play_entry.Tie as tie
 
@@ -120,7 +121,7 @@ loop-again c =
       subst (λ (x : Cursor). Onward (a .t) (a .c) (160 - a .output) (record { cursor = x; count = n + 1 })) (sym (d .step .ensures))
           (onward-more (a .t) (a .c) (160 - a .output) n (l .loop .at) (l .loop .inv .1) (omega (arith, l .loop .inv .0)) some),
       stored (d .before),
-      omega (arith, step, moved-less (a .t) (l .loop .at), l .loop .inv .3),
+      omega (arith, step, moved-less (a .t .rate) (l .loop .at), l .loop .inv .3),
     )
 
 pub play-entry-spec : {M : Type 1} → statement M

@@ -1,0 +1,9 @@
+pub mod Parts
+pub mod Counting
+pub mod Left
+pub mod Positions
+pub mod Marks
+pub mod Formed
+pub mod Once
+pub mod Sounds
+pub mod Ranged
