@@ -3,6 +3,7 @@
 //! replay_memory, replay_adpcm, replay_listing, replay_numbers, replay_mixer
 //! and run_voice. every number is little-endian.
 
+mod playing;
 mod voices;
 
 use std::path::Path;
