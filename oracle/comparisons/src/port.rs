@@ -219,7 +219,5 @@ pub fn record(lane: u32, record: &mut [u8]) -> u8 {
 /// plays one frame of a voice, its record in bytes.
 pub fn play(record: &mut [u8], window: &[u8], base: u32, lane: &mut [i16]) -> u8 {
     assert_eq!(record.len(), RECORD);
-    unsafe {
-        yinzhor_play(record.as_mut_ptr(), window.as_ptr(), window.len(), base, lane.as_mut_ptr(), lane.len())
-    }
+    unsafe { yinzhor_play(record.as_mut_ptr(), window.as_ptr(), window.len(), base, lane.as_mut_ptr(), lane.len()) }
 }
