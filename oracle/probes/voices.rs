@@ -63,6 +63,111 @@ pub fn probe_filters(filters: &mut ProbeFilters, samples: &mut [[i16; 2]]) {
     *filters = private.mirror();
 }
 
+/// a voice that plays frame after frame. what it keeps of its last decode, a
+/// cache, stays with it.
+#[derive(Debug, Clone)]
+pub struct ProbePlayer(Voice);
+
+impl ProbePlayer {
+    pub fn new(voice: ProbeVoice) -> ProbePlayer {
+        ProbePlayer(voice.mirror())
+    }
+
+    pub fn voice(&self) -> ProbeVoice {
+        self.0.clone().mirror()
+    }
+
+    /// another voice that has decoded the same.
+    pub fn change(&mut self, voice: ProbeVoice) {
+        self.0 = Voice { decoded_from: self.0.decoded_from.take(), ..voice.mirror() };
+    }
+
+    /// kept out of line, so that its cost can be measured by name.
+    #[inline(never)]
+    pub fn probe_play_frame(&mut self, memory: &mut Memory) {
+        self.0.play_frame(memory);
+    }
+
+    pub fn parse_config(&mut self, memory: &mut Memory, base: u32, coefficients: u32) {
+        parse_config(&mut self.0, memory, base, coefficients);
+    }
+
+    /// what the next frame will do, found on a copy of the voice: the steps
+    /// of play_frame up to the filters.
+    pub fn follow(&self, memory: &mut Memory) -> ProbeFollowed {
+        let mut voice = self.0.clone();
+        let mut counting = Counting { memory, present: 0, absent: 0 };
+        let follows_on = std::mem::take(&mut voice.ran_out_at_frame_end) && !voice.queue.is_empty();
+        let silent = voice.remaining == 0 && !follows_on;
+        let (mut dequeued, mut produced) = (Vec::new(), 0);
+        while produced < FRAME_SAMPLES {
+            if voice.remaining == 0 {
+                let cached = voice.decodes_nothing_new(&mut counting);
+                if !voice.dequeue(&mut counting) {
+                    break;
+                }
+                let entry = voice.playing.unwrap().mirror();
+                dequeued.push(ProbeDequeued { entry, decoded: voice.decoded.clone(), cached });
+            }
+            if silent {
+                break;
+            }
+            produced = voice.play_buffer(&mut counting, produced);
+        }
+        let Counting { present, absent, .. } = counting;
+        ProbeFollowed { silent, dequeued, produced, present, absent }
+    }
+}
+
+/// what happens in a frame: the entries dequeued, how many samples are
+/// produced, and how many look-ups find all bytes and how many do not.
+#[derive(Debug)]
+pub struct ProbeFollowed {
+    pub silent: bool,
+    pub dequeued: Vec<ProbeDequeued>,
+    pub produced: usize,
+    pub present: usize,
+    pub absent: usize,
+}
+
+/// an entry that is dequeued, what is then decoded, and whether the cache
+/// gave it.
+#[derive(Debug)]
+pub struct ProbeDequeued {
+    pub entry: ProbeBuffer,
+    pub decoded: Vec<i16>,
+    pub cached: bool,
+}
+
+struct Counting<'a> {
+    memory: &'a mut Memory,
+    present: usize,
+    absent: usize,
+}
+
+impl SampleMemory for Counting<'_> {
+    fn physical(&mut self, address: u32, length: u32) -> Option<&[u8]> {
+        let found = self.memory.physical(address, length);
+        *(if found.is_some() { &mut self.present } else { &mut self.absent }) += 1;
+        found
+    }
+}
+
+impl Voice {
+    /// whether the next dequeue takes what the cache holds: then the cache's
+    /// own last history is found after it.
+    fn decodes_nothing_new(&self, counting: &mut Counting) -> bool {
+        const OWN: [i16; 2] = [-12_345, 23_456];
+        if self.decoded_from.is_none() {
+            return false;
+        }
+        let mut voice = self.clone();
+        voice.decoded_from.as_mut().unwrap().end = OWN;
+        voice.dequeue(&mut Counting { memory: counting.memory, present: 0, absent: 0 })
+            && voice.decoded_from.is_some_and(|source| source.end == OWN)
+    }
+}
+
 impl Default for ProbeVoice {
     fn default() -> Self {
         Voice::default().mirror()

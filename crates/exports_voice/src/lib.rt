@@ -28,3 +28,13 @@ pub extern "C" fn yinzhor_filter(count: usize, bytes: &mut [u8; 2456]) -> bool
 {
     voice_jobs::filtering::filter(count, bytes)
 }
+
+#[no_mangle]
+pub extern "C" fn yinzhor_play(
+    bytes: &mut [u8; 2456],
+    window: &[u8],
+    base: u32,
+    lane: &mut [i16],
+) -> u8 {
+    voice_jobs::playing::play(bytes, window, base, lane)
+}

@@ -1,10 +1,11 @@
 // Answers jobs on a voice for the oracle. Standard input holds jobs, one after the other. A job begins with a word, 32 bits, that says its
-// kind: 0 is a configuration, 1 is filters. What follows, and the answer that goes to standard output, is told at the head of the file that
-// answers it: `configuration`, `filtering`. Every number is little-endian, and a record stands in bytes as record_reader has them. Another
-// kind, a number that is out of bounds, and a job that is cut off end the program. stdin and stdout are a fixed list that oracle/record
-// wrote.
+// kind: 0 is a configuration, 1 is filters, 2 is a frame played. What follows, and the answer that goes to standard output, is told at the
+// head of the file that answers it: `configuration`, `filtering`, `playing`. Every number is little-endian, and a record stands in bytes as
+// record_reader has them. Another kind, a number that is out of bounds, and a job that is cut off end the program. stdin and stdout are a
+// fixed list that oracle/record wrote.
 mod configuration;
 mod filtering;
+mod playing;
 
 // How every answer begins: a number and three zeros, and the record.
 fn write_answer(number: u8, record: &[u8; 2456]) -> bool {
@@ -21,6 +22,7 @@ fn answer() -> bool {
     match little::read32(&kind, 0) {
         0 => configuration::answer(),
         1 => filtering::answer(),
+        2 => playing::answer(),
         _ => false,
     }
 }

@@ -4,6 +4,7 @@ use filters::range::filters_in_range;
 use filters::state::Filters;
 use record_reader::record_of;
 use record_writer::put_record;
+use voice::record::Voice;
 ghost use Prim.Native.Nat.{_≤_};
 ghost use lib.Dec.{T};
 ghost use Rattle.filters.specs.Range.{filtersInRange};
@@ -26,6 +27,21 @@ fn filtered(samples: [i16; 320], count: usize, given: Filters) -> Passed
     }
 }
 
+// The record with its frame's first pairs filtered.
+pub fn filter_frame(v: Voice, count: usize) -> Voice
+    requires { ⌜ T (filtersInRange (v .filters)) × (count ≤ 160) ⌝ }
+{
+    let given = v.filters;
+    let samples = v.frame;
+    let done = filtered(samples, count, given);
+    let frame = done.frame;
+    let after = done.filters;
+    let mut w = v;
+    w.filters = after;
+    w.frame = frame;
+    w
+}
+
 // Filters so many pairs of the record's frame, and says whether the filters are in range; nothing is done where they are not.
 pub fn filter(count: usize, bytes: &mut [u8; 2456]) -> bool
     requires { ⌜ count ≤ 160 ⌝ }
@@ -35,13 +51,7 @@ pub fn filter(count: usize, bytes: &mut [u8; 2456]) -> bool
     if !filters_in_range(given) {
         return false;
     }
-    let samples = v.frame;
-    let done = filtered(samples, count, given);
-    let frame = done.frame;
-    let after = done.filters;
-    let mut w = v;
-    w.filters = after;
-    w.frame = frame;
-    put_record(w, bytes);
+    let after = filter_frame(v, count);
+    put_record(after, bytes);
     true
 }

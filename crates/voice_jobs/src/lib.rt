@@ -2,3 +2,4 @@
 // with these functions, and exports_voice gives them C names. They promise nothing of their own.
 pub mod configuration;
 pub mod filtering;
+pub mod playing;

@@ -18,11 +18,11 @@ pub const COEFFICIENTS: usize = 32;
 /// bytes of an answer: the number, 3 zeros, the record, the configuration.
 pub const ANSWER: usize = 4 + RECORD + CONFIGURATION;
 
-const ENTRY: usize = 24;
-const PLAYING: usize = 256;
-const QUEUE: usize = 280;
+pub const ENTRY: usize = 24;
+pub const PLAYING: usize = 256;
+pub const QUEUE: usize = 280;
 pub const FRAME: usize = 1816;
-const PLACES: usize = 64;
+pub const PLACES: usize = 64;
 /// where the record's filters stand: 17 words, the first 4 the simple one's.
 pub const FILTERS: usize = 24;
 const MARKS: [usize; 10] = [0, 1, 6, 7, 92, 93, 94, 232, 233, 234];
@@ -30,6 +30,7 @@ const MARKS: [usize; 10] = [0, 1, 6, 7, 92, 93, 94, 232, 233, 234];
 /// the kinds of a job of run_voice.
 pub const KIND_CONFIGURATION: u32 = 0;
 pub const KIND_FILTERS: u32 = 1;
+pub const KIND_PLAYING: u32 = 2;
 
 /// the bits that the port writes for what is not a number.
 const NAN32: u32 = 0x7FC0_0000;
@@ -62,7 +63,7 @@ fn put<const N: usize>(bytes: &mut [u8], at: usize, value: [u8; N]) {
     bytes[at..at + N].copy_from_slice(&value);
 }
 
-fn put_dsp32(bytes: &mut [u8], at: usize, value: u32) {
+pub fn put_dsp32(bytes: &mut [u8], at: usize, value: u32) {
     put(bytes, at, value.rotate_left(16).to_le_bytes());
 }
 
@@ -443,7 +444,7 @@ pub fn not_numbers(random: &mut Random) -> Vec<(Job, u8)> {
 }
 
 /// document 01's list; what a mark or the count leaves out is not asked.
-fn malformed(record: &[u8], lane: u32) -> bool {
+pub fn malformed(record: &[u8], lane: u32) -> bool {
     let stray = |from: usize, to: usize| {
         (from..to).step_by(4).any(|at| !(-32_768..=32_768).contains(&(read32(record, at) as i32)))
     };
@@ -485,7 +486,7 @@ fn random_entry(random: &mut Random, lane: u32, queued: bool, bytes: &mut [u8]) 
 
 /// a well-formed record. in three of four what lies under marks that are off
 /// and past the count is blank.
-fn random_record(random: &mut Random, lane: u32) -> Vec<u8> {
+pub fn random_record(random: &mut Random, lane: u32) -> Vec<u8> {
     let mut record = random.bytes(RECORD);
     let word = random.word();
     MARKS.iter().for_each(|&at| record[at] &= 1);
@@ -566,7 +567,7 @@ fn random_flags(random: &mut Random) -> u32 {
     }
 }
 
-fn random_configuration(random: &mut Random, lane: u32) -> Vec<u8> {
+pub fn random_configuration(random: &mut Random, lane: u32) -> Vec<u8> {
     let mut bytes = random.bytes(CONFIGURATION);
     put(&mut bytes, 0, random_flags(random).to_le_bytes());
     for at in (4..0x38).step_by(4) {

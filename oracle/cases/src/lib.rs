@@ -6,6 +6,7 @@ pub mod floats;
 pub mod layout;
 pub mod listing;
 mod mixing;
+pub mod playing;
 mod random;
 
 pub use adpcm::{Decode, EXTREMES, bytes_of};

@@ -13,6 +13,7 @@ mod layout;
 mod listing;
 mod measure;
 mod mixer;
+mod play;
 mod port;
 mod region;
 mod stream;
@@ -29,7 +30,7 @@ use cases::Random;
 type Comparison = fn(&mut Random, usize) -> Result<u64, String>;
 
 /// each with how many random inputs are few.
-const COMPARISONS: [(&str, Comparison, usize); 10] = [
+const COMPARISONS: [(&str, Comparison, usize); 11] = [
     ("region", region::compare, 100_000),
     ("dsp32", dsp32::compare, 100_000),
     ("window", window::compare, 100_000),
@@ -40,6 +41,7 @@ const COMPARISONS: [(&str, Comparison, usize); 10] = [
     ("mixer", mixer::compare, 20_000),
     ("filters", filters::compare, 20_000),
     ("config", config::compare, 20_000),
+    ("play", play::compare, 2_000),
 ];
 
 /// the oracle's answer and the port's are the same, or the input is told.

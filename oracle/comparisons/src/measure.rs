@@ -1,18 +1,25 @@
-//! the decoder or the mixer of the source or of the port alone, on the same
-//! input.
+//! the decoder, the mixer, the configuration reader or playing, of the source
+//! or of the port alone, on the same input.
 
 use std::hint::black_box;
 use std::time::{Duration, Instant};
 
 use cases::configuring::{FLAGS, Job};
+use cases::playing::Play;
 use cases::{Decode, Mixing, Random};
-use zakuro_core::services::dsp_voices::probe_decode;
+use zakuro_core::services::dsp_voices::{ProbeBuffer, ProbeFormat, ProbeInterpolation, ProbeVoice, probe_decode};
 
 use crate::port;
 
-/// prints how many samples were decoded or frames mixed, and how many
-/// nanoseconds it took.
+/// prints how many samples were decoded or frames mixed or played, and how
+/// many nanoseconds it took. the side `record` is what the port's playing
+/// does besides: reading the record from bytes and writing it.
 pub fn run(what: &str, side: &str) -> Result<(), String> {
+    if let Some((_, play)) = plays().into_iter().find(|(name, _)| *name == what) {
+        let (many, time) = play_frames(&play, side)?;
+        println!("{many} {}", time.as_nanos());
+        return Ok(());
+    }
     let port = match side {
         "source" => false,
         "port" => true,
@@ -121,4 +128,78 @@ fn configuration(word: u32) -> Job {
     job.slots(0xF, [1; 4]);
     job.flag(word);
     job
+}
+
+/// a busy voice in each way of playing, in one frame of which it ends no
+/// entry: `decoding` begins one with the frame.
+fn plays() -> [(&'static str, Play); 5] {
+    const WINDOW: usize = 65_536;
+    const LONG: u32 = 16_384;
+    let mut random = Random::new(1);
+    let window = random.bytes(WINDOW);
+    let lane = vec![0; LONG as usize];
+    let coefficients = std::array::from_fn(|_| (random.below(4096) as i32 - 2048) as i16);
+    let voice = |format, stereo, rate, at: u32| {
+        let entry = ProbeBuffer {
+            address: 0x2000_0000 + at,
+            length: LONG,
+            format,
+            stereo,
+            looping: false,
+            id: 1,
+            adpcm: None,
+            from_queue: true,
+            play_position: 0,
+            has_played: false,
+        };
+        ProbeVoice {
+            enabled: true,
+            rate,
+            interpolation: ProbeInterpolation::Linear,
+            coefficients,
+            length: LONG,
+            remaining: LONG,
+            playing: Some(entry),
+            ..ProbeVoice::default()
+        }
+    };
+    let mono = voice(ProbeFormat::Pcm16, false, 1.0, 0);
+    let stereo = voice(ProbeFormat::Pcm16, true, 0.7, 0);
+    let mut adpcm = voice(ProbeFormat::Adpcm, false, 1.3, 0);
+    adpcm.decoded = (0..LONG).map(|_| random.word() as i16).collect();
+    // an entry of one frame, followed on to
+    let mut decoding = voice(ProbeFormat::Adpcm, false, 1.3, 0);
+    decoding.queue.extend(decoding.playing.take().map(|entry| ProbeBuffer { length: 210, ..entry }));
+    (decoding.remaining, decoding.ran_out_at_frame_end) = (0, true);
+    // the last half of the entry is outside
+    let absent = voice(ProbeFormat::Pcm16, false, 1.0, WINDOW as u32 - LONG);
+    [
+        ("play-mono", mono),
+        ("play-stereo", stereo),
+        ("play-adpcm", adpcm),
+        ("play-decoding", decoding),
+        ("play-partly-absent", absent),
+    ]
+    .map(|(name, voice)| (name, Play::of(&voice, 0x2000_0000, window.clone(), lane.clone())))
+}
+
+fn play_frames(play: &Play, side: &str) -> Result<(usize, Duration), String> {
+    const TIMES: usize = 2000;
+    let (player, mut memory) = play.oracle();
+    let (mut record, mut lane) = (play.record.clone(), play.lane.clone());
+    let mut time = Duration::ZERO;
+    for _ in 0..TIMES {
+        let mut player = player.clone();
+        record.copy_from_slice(&play.record);
+        let start = Instant::now();
+        match side {
+            "source" => player.probe_play_frame(&mut memory),
+            "port" => assert_eq!(port::play(&mut record, &play.window, play.base, &mut lane), 0),
+            "record" => assert_eq!(port::record(lane.len() as u32, &mut record), 0),
+            _ => return Err(format!("neither source nor port: {side}")),
+        }
+        time += start.elapsed();
+        black_box((&player, &record));
+    }
+    Ok((TIMES, time))
 }

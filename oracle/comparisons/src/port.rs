@@ -44,6 +44,14 @@ unsafe extern "C" {
         coefficients: *const u8,
         coefficients_len: usize,
     ) -> u8;
+    fn yinzhor_play(
+        record: *mut u8,
+        window: *const u8,
+        window_len: usize,
+        base: u32,
+        lane: *mut i16,
+        lane_len: usize,
+    ) -> u8;
 
     fn yinzhor_mixer_tick(
         first: *mut u8,
@@ -246,4 +254,10 @@ pub fn configure(lane: u32, record: &mut [u8], configuration: &mut [u8], coeffic
 pub fn record(lane: u32, record: &mut [u8]) -> u8 {
     assert_eq!(record.len(), RECORD);
     unsafe { yinzhor_record(lane as usize, record.as_mut_ptr()) }
+}
+
+/// plays one frame of a voice, its record in bytes.
+pub fn play(record: &mut [u8], window: &[u8], base: u32, lane: &mut [i16]) -> u8 {
+    assert_eq!(record.len(), RECORD);
+    unsafe { yinzhor_play(record.as_mut_ptr(), window.as_ptr(), window.len(), base, lane.as_mut_ptr(), lane.len()) }
 }

@@ -9,6 +9,7 @@ mod listing;
 mod memory;
 mod mixer;
 mod numbers;
+mod playing;
 mod voices;
 
 use std::path::Path;

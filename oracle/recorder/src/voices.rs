@@ -1,4 +1,4 @@
-//! the voices' part: configurations and filters.
+//! the voices' part: configurations, filters, and frames played.
 
 use cases::Random;
 use cases::configuring::{FILTERS, FLAGS, Job, KIND_FILTERS, at_seven, not_numbers, record_of, voice_of};
@@ -8,12 +8,14 @@ use zakuro_core::services::dsp_voices::{
 };
 
 use crate::Replay;
+use crate::playing::playing;
 
 /// jobs and answers as the crate run_voice has them.
 pub fn voices() -> Replay {
     let mut replay = Replay::default();
     config(&mut Random::new(5), &mut replay);
     filters(&mut Random::new(6), &mut replay);
+    playing(&mut Random::new(8), &mut replay);
     replay
 }
 

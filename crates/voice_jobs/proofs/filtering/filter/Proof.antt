@@ -15,10 +15,10 @@ filters-in-range-requires c κs = search needs
 returns : tie.Need-returns
 returns c = search needs
 
-filtered-requires : tie.Need-filtered-requires
-filtered-requires c κs =
-    let tested = c .before .before .filters-in-range in
-    (subst T (sym (not-false (tested .result) (c .before .if1 .left)) ∙ tested .ensures) tt, search needs)
+filter-frame-requires : tie.Need-filter-frame-requires
+filter-frame-requires c κs =
+    let tested = c .before .filters-in-range in
+    (subst T (sym (not-false (tested .result) (c .if1 .left)) ∙ tested .ensures) tt, search needs)
 
 put-record-requires : tie.Need-put-record-requires
 put-record-requires c κs = search needs
@@ -33,6 +33,6 @@ filter-spec =
     record-of-requires
     filters-in-range-requires
     returns
-    filtered-requires
+    filter-frame-requires
     put-record-requires
     returns-2)
