@@ -24,7 +24,7 @@ use Rattle.queue.proofs.Removal.{without-length, without-before, without-next}
 use Rattle.dequeue.specs.Dequeue.{entryAt, taken, begunAt, dequeued}
 use Rattle.track.specs.Track.{trackOf, cursorOf, soundOf}
 use Rattle.play.specs.Play.{Midst, opened, started, switchedOff, ended, sounded, begunNext, next, onward}
-use Rattle.play_laws.specs.Laws.{AtMost160, Undequeued, DequeuesCounted}
+use Rattle.play_laws.specs.Laws.{AtMost160, entriesOf, DequeuesCounted}
 use Rattle.play_laws.proofs.Parts.{prepared-any, taken-either, dequeued-by, next-by, onward-keeps, silent-by, reached, played-by}
 
 module _ (window : List ℕ) (base : ℕ) where
@@ -58,33 +58,13 @@ module _ (window : List ℕ) (base : ℕ) where
       (λ m h f. omega (arith, sounded-long (begunNext window base m))) (started (opened v) lane) (omega arith) «FRAME_SAMPLES»
 
   -- with none, nothing of theirs has changed
-  abbrev pub Idle : Voice → List ℤ → Midst → Type 0
-  Idle v lane m = m .dequeues ≡ 0 → Undequeued v lane (m .voice) (m .lane)
+  abbrev Idle : Voice → List ℤ → Midst → Type 0
+  Idle v lane m = m .dequeues ≡ 0 → entriesOf (m .voice) (m .lane) ≡ entriesOf v lane
 
   pub onward-idle : (v : Voice) (lane : List ℤ) (n : ℕ) → Idle v lane (onward window base n (started (opened v) lane))
   unfolding sounded begunNext opened
   onward-idle v lane n =
-      onward-keeps window base (Idle v lane)
-      (λ m p z. let u = p z in record {
-        queue = u .queue;
-        queued = u .queued;
-        has-playing = u .has-playing;
-        playing = u .playing;
-        decoded = u .decoded;
-        history = u .history;
-        lane-stays = u .lane-stays;
-      })
-      (λ m p f z. absurd (omega arith)) (started (opened v) lane)
-      (λ z. record {
-        queue = refl;
-        queued = refl;
-        has-playing = refl;
-        playing = refl;
-        decoded = refl;
-        history = refl;
-        lane-stays = refl;
-      })
-      n
+      onward-keeps window base (Idle v lane) (λ m p. p) (λ m p f z. absurd (omega arith)) (started (opened v) lane) (λ z. refl) n
 
 pub at-most-160 : AtMost160
 at-most-160 window base v lane =
@@ -169,27 +149,10 @@ pub dequeues-counted : DequeuesCounted
 unfolding ended switchedOff opened
 dequeues-counted window base v lane = record {
   none =
-      played-by window base (λ f. f .dequeues ≡ 0 → Undequeued v lane (f .voice) (f .lane)) v lane
-      (λ s. silent-by window base (λ f. f .dequeues ≡ 0 → Undequeued v lane (f .voice) (f .lane)) (opened v) lane
-      (λ f z. absurd (omega arith))
-      (λ f z. record {
-        queue = refl;
-        queued = refl;
-        has-playing = refl;
-        playing = refl;
-        decoded = refl;
-        history = refl;
-        lane-stays = refl;
-      }))
-      (λ s z. let u = onward-idle window base v lane «FRAME_SAMPLES» z in record {
-        queue = u .queue;
-        queued = u .queued;
-        has-playing = u .has-playing;
-        playing = u .playing;
-        decoded = u .decoded;
-        history = u .history;
-        lane-stays = u .lane-stays;
-      });
+      played-by window base (λ f. f .dequeues ≡ 0 → entriesOf (f .voice) (f .lane) ≡ entriesOf v lane) v lane
+      (λ s. silent-by window base (λ f. f .dequeues ≡ 0 → entriesOf (f .voice) (f .lane) ≡ entriesOf v lane) (opened v) lane
+      (λ f z. absurd (omega arith)) (λ f z. refl))
+      (λ s. onward-idle window base v lane «FRAME_SAMPLES»);
   each = λ r n.
       played-by window base (λ f. f .voice .queued + f .dequeues ≡ v .queued) v lane
       (λ s. silent-by window base (λ f. f .voice .queued + f .dequeues ≡ v .queued) (opened v) lane

@@ -12,7 +12,6 @@ use Rattle.steps.specs.Stretch.{after}
 use Rattle.voice.specs.Blank.{places}
 use Rattle.voice.specs.Malformed.{WellFormed, malformed}
 use Rattle.voice.specs.Range.{Sized, sized}
-use Rattle.voice.specs.Set.{set-voice-position}
 use Rattle.voice.specs.declared.record.Voice.{Voice}
 use Rattle.voice.proofs.Formed.{not-malformed-formed, formed-not-malformed}
 use Rattle.voice.proofs.Range.{test-sized, sized-test}
@@ -34,41 +33,9 @@ record Fit (L : ℕ) (v : Voice) (lane : List ℤ) : Type 0 where
   all-places : length (v .queue) ≡ places
   lane-long : length lane ≡ L
 
-module _ (L : ℕ) (v : Voice) (w : WellFormed L v) where
-  positioned-formed : (n : ℕ) → WellFormed L (set-voice-position n v)
-  positioned-formed n = record {
-    queued = w .queued;
-    remaining = w .remaining;
-    decoded = w .decoded;
-    entries = w .entries;
-    rate = w .rate;
-    fraction = w .fraction;
-    filters = w .filters;
-  }
-
-  off-formed : WellFormed L (switchedOff v)
-  unfolding switchedOff
-  off-formed = record {
-    queued = w .queued;
-    remaining = w .remaining;
-    decoded = w .decoded;
-    entries = w .entries;
-    rate = w .rate;
-    fraction = w .fraction;
-    filters = w .filters;
-  }
-
-ended-formed : (L : ℕ) (m : Midst) → WellFormed L (m .voice) → WellFormed L (ended m)
-unfolding ended
-ended-formed L m w = record {
-  queued = w .queued;
-  remaining = w .remaining;
-  decoded = w .decoded;
-  entries = w .entries;
-  rate = w .rate;
-  fraction = w .fraction;
-  filters = w .filters;
-}
+-- a record of which number 7 asks the same
+same-formed : (L : ℕ) (v w : Voice) → malformed L w ≡ malformed L v → WellFormed L v → WellFormed L w
+same-formed L v w e f = not-malformed-formed L w (e ∙ formed-not-malformed L v f)
 
 module _ (window : List ℕ) (base L : ℕ) where
   dequeued-fit : (v : Voice) (lane : List ℤ) → Fit L v lane → Fit L (dequeued window base v .voice) (dequeuedLane window base v lane)
@@ -92,30 +59,30 @@ module _ (window : List ℕ) (base L : ℕ) where
     opened-fit = record { formed = opened-formed L v (f .formed); all-places = f .all-places; lane-long = f .lane-long }
 
     reached-fit : Fit L (reached window base v lane .voice) (reached window base v lane .lane)
-    unfolding begunNext
+    unfolding begunNext malformed
     reached-fit =
         onward-keeps window base (λ (m : Midst). Fit L (m .voice) (m .lane)) sounded-fit
         (λ m p t. sounded-fit (begunNext window base m) (dequeued-fit (m .voice) (m .lane) p)) (started (opened v) lane)
         (record {
-          formed = positioned-formed L (opened v) (opened-fit .formed) _;
+          formed = same-formed L (opened v) (started (opened v) lane .voice) refl (opened-fit .formed);
           all-places = opened-fit .all-places;
           lane-long = f .lane-long;
         })
         «FRAME_SAMPLES»
 
     frame-fit : Fit L (played window base v lane .voice) (played window base v lane .lane)
-    unfolding switchedOff ended
+    unfolding switchedOff ended malformed
     frame-fit =
         played-by window base (λ (x : Frame). Fit L (x .voice) (x .lane)) v lane
         (λ s. silent-by window base (λ (x : Frame). Fit L (x .voice) (x .lane)) (opened v) lane
         (λ t. dequeued-fit (opened v) lane opened-fit)
         (λ t. record {
-          formed = off-formed L (opened v) (opened-fit .formed);
+          formed = same-formed L (opened v) (switchedOff (opened v)) refl (opened-fit .formed);
           all-places = opened-fit .all-places;
           lane-long = f .lane-long;
         }))
         (λ s. record {
-          formed = ended-formed L (reached window base v lane) (reached-fit .formed);
+          formed = same-formed L (reached window base v lane .voice) (ended (reached window base v lane)) refl (reached-fit .formed);
           all-places = reached-fit .all-places;
           lane-long = reached-fit .lane-long;
         })

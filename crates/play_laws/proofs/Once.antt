@@ -12,7 +12,6 @@ use Rattle.numbers.specs.Sizes.{«FRAME_SAMPLES»}
 use Rattle.numbers.specs.Literals.{+0}
 use Rattle.steps.specs.Step.{moved}
 use Rattle.steps.specs.declared.step.Cursor.{Cursor}
-use Rattle.voice.specs.declared.record.Entry.{Entry}
 use Rattle.voice.specs.declared.record.Format.{Format}
 use Rattle.voice.specs.declared.record.Format.the-variants.{Adpcm}
 use Rattle.voice.specs.declared.record.Voice.{Voice}
@@ -25,7 +24,7 @@ use Rattle.dequeue.specs.Dequeue.{dequeuedBy, dequeued}
 use Rattle.track.specs.declared.Track.{Track}
 use Rattle.track.specs.Track.{trackOf, cursorOf, betweenSamples, heardAt, placeOf, soundOf}
 use Rattle.play.specs.Play.{Midst, Frame, at, opened, started, sounded, begunNext, next, onward}
-use Rattle.play_laws.specs.Laws.{DecodedOnce}
+use Rattle.play_laws.specs.Laws.{Entries, DecodedOnce}
 use Rattle.play_laws.proofs.Parts.{next-by, reached, madeOf, played-plays}
 use Rattle.play_laws.proofs.Counting.{onward-idle}
 
@@ -90,7 +89,8 @@ module _ (window other : List ℕ) (base there : ℕ) where
   onward-once v lane a (suc n) e =
       let m = onward window base n (started (opened v) lane) in
       let none : m .dequeues ≡ 0 = omega (arith, next-more m, e) in
-      let adpcm : m .voice .playing .format ≡ Adpcm = ap (λ (x : Entry). x .format) (onward-idle window base v lane n none .playing) ∙ a in
+      let adpcm : m .voice .playing .format ≡ Adpcm =
+      ap (λ (x : Entries). x .playing .format) (onward-idle window base v lane n none) ∙ a in
       next-once m adpcm (e ∙ sym none) ∙ ap (next other there) (onward-once v lane a n none)
 
 pub decoded-once : DecodedOnce

@@ -74,19 +74,14 @@ start-in e h =
 abbrev R : Voice → Type 0
 R u = inRange u ≡ true
 
--- a record with a test that passes in place of another
-abbrev swap : (tests : List Bool) (k : ℕ) (test : Bool) → every (λ t. t) tests ≡ true → test ≡ true
-    → every (λ t. t) (set tests k test) ≡ true
-swap tests k test p t = every-set (λ t. t) tests k test p t
-
 module _ (v : Voice) (r : R v) where
   -- with another queue
   queue-in : (queue : List Entry) → every entryInRange queue ≡ true → (n : ℕ) → n < 2 ^ 64
       → R (set-voice-queued n (set-voice-queue queue v))
   unfolding inRange
   queue-in queue q n h =
-      swap (set (rangeTests v) 8 (every entryInRange queue)) 9 (unsigned 64 n) (swap (rangeTests v) 8 (every entryInRange queue) r q)
-      (below-unsigned 64 n h)
+      every-set (λ t. t) (set (rangeTests v) 8 (every entryInRange queue)) 9 (unsigned 64 n)
+      (every-set (λ t. t) (rangeTests v) 8 (every entryInRange queue) r q) (below-unsigned 64 n h)
 
   entry-at-in : (place : ℕ) → entryInRange (entryAt place v) ≡ true
   entry-at-in place = every-at entryInRange (v .queue) place blankEntry (test-in-range v r .queue) blank-in-range
@@ -178,8 +173,9 @@ unfolding inRange
 moved-in v r =
     let c = moved (v .rate) (cursorOf v) in
     let less : c .remaining < 2 ^ 32 = omega (arith, moved-less (v .rate) (cursorOf v), test-in-range v r .remaining) in
-    swap (set (rangeTests v) 12 (unsigned 32 (c .remaining))) 14 (fits binary64 (c .fraction))
-    (swap (rangeTests v) 12 (unsigned 32 (c .remaining)) r (below-unsigned 32 (c .remaining) less)) (left-double (v .rate) (cursorOf v))
+    every-set (λ t. t) (set (rangeTests v) 12 (unsigned 32 (c .remaining))) 14 (fits binary64 (c .fraction))
+    (every-set (λ t. t) (rangeTests v) 12 (unsigned 32 (c .remaining)) r (below-unsigned 32 (c .remaining) less))
+    (left-double (v .rate) (cursorOf v))
 
 -- ---- a frame
 
@@ -187,7 +183,7 @@ moved-in v r =
 framed-in : (v : Voice) → R v → (frame : List ℤ) (mark : Bool) → every (signed 16) frame ≡ true
     → R (set-voice-frame frame (set-voice-ran-out-at-frame-end mark v))
 unfolding inRange
-framed-in v r frame mark f = swap (rangeTests v) 18 (every (signed 16) frame) r f
+framed-in v r frame mark f = every-set (λ t. t) (rangeTests v) 18 (every (signed 16) frame) r f
 
 opened-in : (v : Voice) → R v → R (opened v)
 unfolding opened
@@ -196,16 +192,17 @@ opened-in v r = framed-in v r (replicate 320 (pos 0)) false (every-replicate (si
 -- at another position
 placed-in : (v : Voice) → R v → (n : ℕ) → n < 2 ^ 32 → R (set-voice-position n v)
 unfolding inRange
-placed-in v r n h = swap (rangeTests v) 17 (unsigned 32 n) r (below-unsigned 32 n h)
+placed-in v r n h = every-set (λ t. t) (rangeTests v) 17 (unsigned 32 n) r (below-unsigned 32 n h)
 
 off-in : (v : Voice) → R v → R (switchedOff v)
 unfolding switchedOff inRange
 off-in v r =
     let i = test-in-range v r in
     let last = set (rangeTests v) 16 (unsigned 16 (v .«current_buffer_id»)) in
-    swap (set last 15 (unsigned 16 0)) 17 (unsigned 32 0)
-    (swap last 15 (unsigned 16 0)
-    (swap (rangeTests v) 16 (unsigned 16 (v .«current_buffer_id»)) r (below-unsigned 16 (v .«current_buffer_id») (i .current-buffer-id)))
+    every-set (λ t. t) (set last 15 (unsigned 16 0)) 17 (unsigned 32 0)
+    (every-set (λ t. t) last 15 (unsigned 16 0)
+    (every-set (λ t. t) (rangeTests v) 16 (unsigned 16 (v .«current_buffer_id»)) r
+    (below-unsigned 16 (v .«current_buffer_id») (i .current-buffer-id)))
     (below-unsigned 16 0 (omega arith)))
     (below-unsigned 32 0 (omega arith))
 

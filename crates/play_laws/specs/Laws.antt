@@ -9,9 +9,11 @@ use lib.IntN.{ℤ, pos}
 use lib.ListN.{length, drop, replicate}
 use Rattle.lists.specs.Some.{some, every}
 use Rattle.numbers.specs.Sizes.{«FRAME_SAMPLES», FRAME}
+use Rattle.adpcm.specs.declared.History.{History}
 use Rattle.filters.specs.declared.state.Filters.{Filters}
 use Rattle.voice.specs.Malformed.{malformed, queuedIn}
 use Rattle.voice.specs.Range.{isByte, signed, inRange, sized}
+use Rattle.voice.specs.declared.record.Entry.{Entry}
 use Rattle.voice.specs.declared.record.Format.the-variants.{Adpcm}
 use Rattle.voice.specs.declared.record.Kinds.{Kinds}
 use Rattle.voice.specs.declared.record.Voice.{Voice}
@@ -20,15 +22,26 @@ use Rattle.queue.specs.declared.Found.the-variants.{At, Nothing}
 use Rattle.dequeue.specs.Dequeue.{entryAt, startOf}
 use Rattle.play.specs.Play.{Frame, followsOn, isSilent, played}
 
--- no entry was dequeued from a record and its lane: queue, entry, history and lane are as they were
-pub record Undequeued (v : Voice) (lane : List ℤ) (w : Voice) (lane-after : List ℤ) : Type 0 where
-  pub queue : w .queue ≡ v .queue
-  pub queued : w .queued ≡ v .queued
-  pub has-playing : w .«has_playing» ≡ v .«has_playing»
-  pub playing : w .playing ≡ v .playing
-  pub decoded : w .decoded ≡ v .decoded
-  pub history : w .history ≡ v .history
-  pub lane-stays : lane-after ≡ lane
+-- what a dequeue sets, beside the counters of playing: the queue, the entry that plays, the history and the lane
+pub record Entries : Type 0 where
+  pub queue : List Entry
+  pub queued : ℕ
+  pub has-playing : Bool
+  pub playing : Entry
+  pub decoded : ℕ
+  pub history : History
+  pub lane : List ℤ
+
+abbrev pub entriesOf : Voice → List ℤ → Entries
+entriesOf v lane = record {
+  queue = v .queue;
+  queued = v .queued;
+  has-playing = v .«has_playing»;
+  playing = v .playing;
+  decoded = v .decoded;
+  history = v .history;
+  lane = lane;
+}
 
 module _ (window : List ℕ) (base : ℕ) (v : Voice) (lane : List ℤ) where
   abbrev frame : Frame
@@ -49,9 +62,9 @@ module _ (window : List ℕ) (base : ℕ) (v : Voice) (lane : List ℤ) where
     pub dequeuing : (v .queued ≡ 0 → ⊥) → (frame .dequeues ≡ 1) × (frame .voice .enabled ≡ v .enabled)
     pub off : v .queued ≡ 0 → (frame .dequeues ≡ 0) × (frame .voice .enabled ≡ false)
 
-  -- The count of entries dequeued counts: with none nothing of theirs has changed; and of a queue in which nothing loops each took one.
+  -- The count of dequeues counts: with none, nothing that a dequeue sets has changed; from a queue in which nothing loops each took one.
   pub record Counted : Type 0 where
-    pub none : frame .dequeues ≡ 0 → Undequeued v lane (frame .voice) (frame .lane)
+    pub none : frame .dequeues ≡ 0 → entriesOf (frame .voice) (frame .lane) ≡ entriesOf v lane
     pub each :
         v .queued ≤ length (v .queue)
         → some (λ e. e .looping) (queuedIn v) ≡ false
