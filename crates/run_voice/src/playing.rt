@@ -28,13 +28,18 @@ fn with_lane(window: &[u8], base: u32, bytes: &[u8], count: usize) -> bool
     played(window, base, lane)
 }
 
+// The next word; where the input ends the largest, which no count may be.
+fn word() -> u32 {
+    let mut bytes = [0u8; 4];
+    if io::read_full(0, &mut bytes) != 4 {
+        return u32::MAX;
+    }
+    little::read32(&bytes, 0)
+}
+
 // The rest of a job whose window was read.
 fn over(window: &[u8], base: u32) -> bool {
-    let mut head = [0u8; 4];
-    if io::read_full(0, &mut head) != 4 {
-        return false;
-    }
-    let count = little::read32(&head, 0) as usize;
+    let count = word() as usize;
     if count > 2048 {
         return false;
     }
@@ -48,12 +53,8 @@ fn over(window: &[u8], base: u32) -> bool {
 }
 
 pub fn answer() -> bool {
-    let mut head = [0u8; 8];
-    if io::read_full(0, &mut head) != 8 {
-        return false;
-    }
-    let base = little::read32(&head, 0);
-    let count = little::read32(&head, 4) as usize;
+    let base = word();
+    let count = word() as usize;
     if count > 65536 {
         return false;
     }

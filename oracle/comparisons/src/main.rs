@@ -9,6 +9,7 @@ mod config;
 mod decode;
 mod dsp32;
 mod filters;
+mod kinds;
 mod layout;
 mod listing;
 mod measure;
