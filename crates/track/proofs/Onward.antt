@@ -42,11 +42,11 @@ unfolding after
 after-less t c zero = omega arith
 after-less t c (suc n) = omega (arith, moved-less t (after (t .rate) n c), after-less t c n)
 
-module _ (window : List ℕ) (base : ℕ) (lane : List ℤ) (t : Track) where
-  pub put-length : (frame : List ℤ) (k : ℕ) (s : Sample) → length (put frame k s) ≡ length frame
-  unfolding put
-  put-length frame k s = simp length-set
+pub put-length : (frame : List ℤ) (k : ℕ) (s : Sample) → length (put frame k s) ≡ length frame
+unfolding put
+put-length frame k s = simp length-set
 
+module _ (window : List ℕ) (base : ℕ) (lane : List ℤ) (t : Track) where
   pub laid-length : (c : Cursor) (output n : ℕ) (frame : List ℤ) → length (laid window base lane t c output n frame) ≡ length frame
   unfolding laid
   laid-length c output zero frame = refl
