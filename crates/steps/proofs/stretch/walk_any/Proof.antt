@@ -1,6 +1,6 @@
 -- `steps::stretch::walk_any` meets its contract: a turn is one step, by the laws of Walk. Assumes nothing.
 use mathlib.Core.Path.{_≡_, refl, ap, _∙_, subst}
-use Prim.Native.Nat.{ℕ, _-_, _+_}
+use Prim.Native.Nat.{ℕ, _-_}
 use native.Mathlib.Omega.{arith}
 use lib.Ieee.{Float, binary64, add, sub}
 use Rattle.numbers.specs.Held.{at-least-0}

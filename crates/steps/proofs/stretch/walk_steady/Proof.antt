@@ -1,6 +1,6 @@
 -- `steps::stretch::walk_steady` meets its contract: a turn is one step, by the laws of Steady and Walk. Assumes nothing.
 use mathlib.Core.Path.{_≡_, refl, sym, ap, _∙_, subst}
-use Prim.Native.Nat.{ℕ, _-_, _+_}
+use Prim.Native.Nat.{ℕ, _-_}
 use native.Mathlib.Omega.{arith}
 use lib.IntN.{pos}
 use mathlib.Core.Bool.{cond}
