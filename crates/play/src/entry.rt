@@ -14,8 +14,8 @@ ghost use lib.ListN.{length};
 ghost use Rattle.numbers.specs.Sizes.{«FRAME_SAMPLES», FRAME};
 ghost use Rattle.track.specs.Laid.{laid, Turned};
 
-// Plays on into the frame from `output`: at least one sample, and on until the frame is full or nothing remains. As far as they go, stretches
-// are played the quick way; between them a sample at a time.
+// Plays on into the frame from `output`: at least one sample, and on until the frame is full or nothing remains. As far as they go,
+// stretches are played the quick way; between them a sample at a time.
 pub fn play_entry(
     window: &[u8],
     base: u32,

@@ -1,5 +1,5 @@
--- `play::entry::play_entry` meets its contract. The invariant: `n` samples were produced and laid into the frame, something remains, and there
--- is room for one more. A turn plays a stretch on, and then one sample. Assumes nothing.
+-- `play::entry::play_entry` meets its contract. The invariant: `n` samples were produced and laid into the frame, something remains, and
+-- there is room for one more. A turn plays a stretch on, and then one sample. Assumes nothing.
 use mathlib.Core.Path.{_≡_, sym, ap, _∙_, subst}
 use denote.Ref.{now}
 use mathlib.Core.Logic.{inl, inr}
@@ -81,7 +81,8 @@ less c =
 stored : (c : tie.After-put Inv-loop μ-loop) → let p = c .before .before .before .before .before .before in
     let a = p .before .before .before .before .args in
     c .put .last .0
-    ≡ laid (now (a .window)) (a .base) (now (a .lane)) (a .t) (a .c) (a .output) (p .before .before .loop .n + p .play-on .result .count + 1)
+    ≡ laid (now (a .window)) (a .base) (now (a .lane)) (a .t) (a .c) (a .output)
+    (p .before .before .loop .n + p .play-on .result .count + 1)
     (now (a .frame))
 stored c =
     let p = c .before .before .before .before .before .before in

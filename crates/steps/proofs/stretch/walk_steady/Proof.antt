@@ -58,7 +58,8 @@ loop-holds : tie.Need-loop-holds Inv-loop μ-loop
 loop-holds c =
     let a = c .before .before .args in
     let q = c .before .before .pre .1 .1 .1 in (
-      begun (a .rate) _ (a .size) (now (a .places)) (now (a .fractions)) (a .room) (a .size - a .c .remaining) (a .c .fraction) (omega arith)
+      begun (a .rate) _ (a .size) (now (a .places)) (now (a .fractions)) (a .room) (a .size - a .c .remaining) (a .c .fraction)
+          (omega arith)
           (q .0) (q .1 .0) refl,
       q .1 .1 .0,
     )
