@@ -1,5 +1,5 @@
--- What is stored from places and fractions is what a track gives: a mono sample is its left value twice, what was fetched is found again, and a
--- walk notes where the cursors are. Assumes nothing.
+-- What is stored from places and fractions is what a track gives: a mono sample is its left value twice, what was fetched is found again,
+-- and a walk notes where the cursors are. Assumes nothing.
 use mathlib.Core.Path.{_≡_, refl, sym, ap, _∙_}
 use mathlib.Core.Bool.{Bool, true, false, _||_, not}
 use mathlib.Core.List.{List}
@@ -35,14 +35,17 @@ mono-by lane bytes Pcm16 true p h = absurd (clash (sym h))
 mono-by lane bytes Pcm16 false p h = refl
 mono-by lane bytes Adpcm stereo p h = refl
 
-mono : (lane : List ℤ) (bytes : List ℕ) (e : Entry) (p : ℕ) → isMono e ≡ true → sampleIn lane bytes e p ≡ both (sampleIn lane bytes e p .left)
+mono : (lane : List ℤ) (bytes : List ℕ) (e : Entry) (p : ℕ) → isMono e ≡ true
+    → sampleIn lane bytes e p ≡ both (sampleIn lane bytes e p .left)
 unfolding isMono sampleIn
 mono lane bytes e p h = mono-by lane bytes (e .format) (e .stereo) p h
 
-module _ (lane : List ℤ) (bytes : List ℕ) (e : Entry) (places : List ℕ) (fractions : List Float) (output n : ℕ) (frame : List ℤ) (few : n ≤ 160)
+module _ (lane : List ℤ) (bytes : List ℕ) (e : Entry) (places : List ℕ) (fractions : List Float) (output n : ℕ) (frame : List ℤ)
+    (few : n ≤ 160)
   where
     -- what lies between the values of fetched pairs, of a mono entry
-    pub pairs-between : (zeros pairs : List ℤ) → length zeros ≡ 320 → pairs ≡ stored (pairAt lane bytes e places) 0 n zeros → isMono e ≡ true
+    pub pairs-between : (zeros pairs : List ℤ) → length zeros ≡ 320 → pairs ≡ stored (pairAt lane bytes e places) 0 n zeros
+        → isMono e ≡ true
         → stored (pairBlend pairs fractions) output n frame ≡ stored (blendedAt lane bytes e places fractions) output n frame
     pairs-between zeros pairs long is m =
         stored-same (pairBlend pairs fractions) output frame (blendedAt lane bytes e places fractions) n
@@ -95,7 +98,8 @@ unfolding soundBy
 sound-zero heard true place fraction e = refl
 sound-zero heard false place fraction e = cond-yes _ _ e
 
-pub run-sound : (lane : List ℤ) (bytes : List ℕ) (t : Track) (c : Cursor) → t .rate ≡ +1 → eq (c .fraction) +0 ≡ true → c .remaining ≤ t .length
+pub run-sound : (lane : List ℤ) (bytes : List ℕ) (t : Track) (c : Cursor) → t .rate ≡ +1 → eq (c .fraction) +0 ≡ true
+    → c .remaining ≤ t .length
     → (i : ℕ) → i ≤ c .remaining
     → runAt lane bytes (t .playing) (t .length - c .remaining) i ≡ soundAfter lane bytes t c i
 run-sound lane bytes t c r z l i h =

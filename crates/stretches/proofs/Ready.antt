@@ -1,5 +1,5 @@
--- Where an entry is ready, the sample at each place of it is the definition's: one look-up of all its bytes holds the bytes that the look-up
--- of each sample gives. By the bytes of both in the window. Assumes nothing.
+-- Where an entry is ready, the sample at each place of it is the definition's: one look-up of all its bytes holds the bytes that the
+-- look-up of each sample gives. By the bytes of both in the window. Assumes nothing.
 use mathlib.Core.Path.{_≡_, refl, sym, ap, _∙_}
 use mathlib.Core.Bool.{Bool, true, false, _&&_, _||_, cond}
 use mathlib.Core.List.{List, []}
@@ -30,7 +30,8 @@ use Rattle.stretches.specs.Source.{entryBytes, isHeld, isReady, soundBy,
 
 -- ---- bytes
 
-module _ (window : List ℕ) (base address total : ℕ) (all : AllInside (length window) base address total) (low : address + total < 2 ^ 32) where
+module _ (window : List ℕ) (base address total : ℕ) (all : AllInside (length window) base address total)
+    (low : address + total < 2 ^ 32) where
   -- a byte of a sample is that of the whole entry
   byte : (size p k q : ℕ) → k < size → p * size + size ≤ total → q ≡ p * size + k
       → getD (lookUp window base ((address + p * size) % 2 ^ 32) size) k 0 ≡ getD (lookUp window base address total) q 0

@@ -1,5 +1,5 @@
--- Samples stored one after the other: one more, how long the frame stays, what is found there again, and that a track's samples stored so are
--- what `laid` says. By induction on how many. Assumes nothing.
+-- Samples stored one after the other: one more, how long the frame stays, what is found there again, and that a track's samples stored so
+-- are what `laid` says. By induction on how many. Assumes nothing.
 use mathlib.Core.Path.{_≡_, refl, sym, ap, _∙_}
 use mathlib.Core.Logic.{⊎-elim}
 use mathlib.Core.List.{List}
@@ -96,7 +96,8 @@ found samples frame (suc n) l m i h =
     same : n ≤ i → i ≡ n
     same b = omega arith
 
-    old : i < n → storedAt (stored samples 0 n frame) i ≡ samples i → storedAt (put (stored samples 0 n frame) (0 + n) (samples n)) i ≡ samples i
+    old : i < n → storedAt (stored samples 0 n frame) i ≡ samples i
+        → storedAt (put (stored samples 0 n frame) (0 + n) (samples n)) i ≡ samples i
     old b e = found-before _ (0 + n) i (samples n) (omega arith) ∙ e
 
     new : i ≡ n → storedAt (put (stored samples 0 n frame) (0 + n) (samples n)) i ≡ samples i

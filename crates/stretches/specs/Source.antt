@@ -1,6 +1,6 @@
--- Where the samples of an entry lie: PCM in one part of the window, ADPCM in the lane; and the sample that a voice produces from them. Only the
--- contracts of quick functions cite these; `ready-sound` of proofs/Ready.antt proves that they say what track's definitions say. Assumes
--- nothing: these are definitions.
+-- Where the samples of an entry lie: PCM in one part of the window, ADPCM in the lane; and the sample that a voice produces from them. Only
+-- the contracts of quick functions cite these; `ready-sound` of proofs/Ready.antt proves that they say what track's definitions say.
+-- Assumes nothing: these are definitions.
 use mathlib.Core.Bool.{Bool, _&&_, _||_, not, cond}
 use mathlib.Core.List.{List, []}
 use Prim.Native.Nat.{ℕ, _+_, _-_, _*_, _^_, _≤_}

@@ -1,5 +1,5 @@
--- Samples stored one after the other in a frame, and what is stored. Only the contracts of quick functions cite these. Assumes nothing: these are
--- definitions.
+-- Samples stored one after the other in a frame, and what is stored. Only the contracts of quick functions cite these. Assumes nothing:
+-- these are definitions.
 use mathlib.Core.Bool.{cond}
 use mathlib.Core.List.{List}
 use Prim.Native.Nat.{ℕ, zero, suc, _+_, _*_, _<_}

@@ -15,7 +15,8 @@ use Rattle.stretches.specs.Stored.{blended}
 use Rattle.stretches.proofs.blend.blend.Statement.{statement}
 use Rattle.stretches.proofs.blend.blend.Tie as tie
 
-at-zero : (a b : Sample) (fraction : Float) → mag (a .left) < 32768 → mag (a .right) < 32768 → mag (b .left) < 32768 → mag (b .right) < 32768
+at-zero : (a b : Sample) (fraction : Float) → mag (a .left) < 32768 → mag (a .right) < 32768 → mag (b .left) < 32768
+    → mag (b .right) < 32768
     → eq fraction +0 ≡ true → betweenSamples a b fraction ≡ a
 unfolding betweenSamples
 at-zero a b fraction al ar bl br e =

@@ -26,7 +26,8 @@ abbrev μ-loop : tie.MeasureT-loop
 loop-holds : tie.Need-loop-holds Inv-loop μ-loop
 loop-holds c =
     let a = c .args in
-    (omega arith, stored-none (pairBlend (now (a .pairs)) (now (a .fractions))) (a .output) (now (a .frame)))
+    let samples = pairBlend (now (a .pairs)) (now (a .fractions)) in
+    (omega arith, stored-none samples (a .output) (now (a .frame)))
 
 stored-at-requires : tie.Need-stored-at-requires Inv-loop μ-loop
 stored-at-requires c κs = omega (arith, c .before .before .pre .0, c .loop-test .taken)
@@ -54,9 +55,10 @@ put-requires c κs =
     let x = c .before .before .before .before .before .before .before .before in
     let l = x .before in
     let s = l .before in
-    let a = s .args in (
+    let a = s .args in
+    let samples = pairBlend (now (a .pairs)) (now (a .fractions)) in (
       omega (arith, s .pre .0, x .loop-test .taken),
-      stored-long (pairBlend (now (a .pairs)) (now (a .fractions))) (a .output) (now (a .frame)) (l .loop .i) (l .loop .frame) (l .loop .inv .1) (s .pre .1),
+      stored-long samples (a .output) (now (a .frame)) (l .loop .i) (l .loop .frame) (l .loop .inv .1) (s .pre .1),
     )
 
 add-i : tie.Need-add-i Inv-loop μ-loop
@@ -73,6 +75,7 @@ loop-again c =
     let p = z .before .before in
     let l = p .before .before in
     let a = l .before .args in
+    let samples = pairBlend (now (a .pairs)) (now (a .fractions)) in
     let r = p .stored-at .result in
     let left : toZ w16 (ofZ w16 (r .left)) ≡ r .left = toZ-ofZ (record { sfits = z .before .struct-told .given .0 .1 }) in
     let right : toZ w16 (ofZ w16 (r .right)) ≡ r .right = toZ-ofZ (record { sfits = y .before .struct-told2 .given .1 .0 .1 }) in
@@ -80,7 +83,7 @@ loop-again c =
     let to = y .alike2 .ensures ∙ ap both (right ∙ ap (λ (s : Sample). s .right) (p .stored-at .ensures)) in
     let s = b .blend .ensures ∙ (λ i. blended (from i) (to i) (getD (now (a .fractions)) (l .loop .i) nan)) in (
       omega (arith, p .before .loop-test .taken),
-      stored-turn (pairBlend (now (a .pairs)) (now (a .fractions))) (a .output) (now (a .frame)) (l .loop .i) (l .loop .frame) _ (b .blend .result) _ refl (l .loop .inv .1) s
+      stored-turn samples (a .output) (now (a .frame)) (l .loop .i) (l .loop .frame) _ (b .blend .result) _ refl (l .loop .inv .1) s
           (c .put .ensures),
     )
 
@@ -88,8 +91,9 @@ returns : tie.Need-returns Inv-loop μ-loop
 returns c =
     let l = c .before in
     let a = l .before .args in
+    let samples = pairBlend (now (a .pairs)) (now (a .fractions)) in
     let e : l .loop .i ≡ a .count = omega (arith, l .loop .inv .0, c .loop-test .left) in
-    l .loop .inv .1 ∙ ap (λ (n : ℕ). stored (pairBlend (now (a .pairs)) (now (a .fractions))) (a .output) n (now (a .frame))) e
+    l .loop .inv .1 ∙ ap (λ (n : ℕ). stored samples (a .output) n (now (a .frame))) e
 
 pub blend-pairs-spec : {M : Type 1} → statement M
 blend-pairs-spec =

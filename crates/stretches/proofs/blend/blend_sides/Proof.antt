@@ -21,7 +21,8 @@ abbrev μ-loop : tie.MeasureT-loop
 loop-holds : tie.Need-loop-holds Inv-loop μ-loop
 loop-holds c =
     let a = c .args in
-    (omega arith, stored-none (sidesBlend (now (a .here)) (now (a .next)) (now (a .fractions))) (a .output) (now (a .frame)))
+    let samples = sidesBlend (now (a .here)) (now (a .next)) (now (a .fractions)) in
+    (omega arith, stored-none samples (a .output) (now (a .frame)))
 
 stored-at-requires : tie.Need-stored-at-requires Inv-loop μ-loop
 stored-at-requires c κs = omega (arith, c .before .before .pre .0, c .loop-test .taken)
@@ -46,9 +47,10 @@ put-requires c κs =
     let x = c .before .before .before .before .before in
     let l = x .before in
     let s = l .before in
-    let a = s .args in (
+    let a = s .args in
+    let samples = sidesBlend (now (a .here)) (now (a .next)) (now (a .fractions)) in (
       omega (arith, s .pre .0, x .loop-test .taken),
-      stored-long (sidesBlend (now (a .here)) (now (a .next)) (now (a .fractions))) (a .output) (now (a .frame)) (l .loop .i) (l .loop .frame) (l .loop .inv .1) (s .pre .1),
+      stored-long samples (a .output) (now (a .frame)) (l .loop .i) (l .loop .frame) (l .loop .inv .1) (s .pre .1),
     )
 
 add-i : tie.Need-add-i Inv-loop μ-loop
@@ -64,10 +66,11 @@ loop-again c =
     let x = y .before .before in
     let l = x .before in
     let a = l .before .args in
+    let samples = sidesBlend (now (a .here)) (now (a .next)) (now (a .fractions)) in
     let s = b .blend .ensures
     ∙ (λ i. blended (y .before .stored-at .ensures i) (y .stored-at2 .ensures i) (getD (now (a .fractions)) (l .loop .i) nan)) in (
       omega (arith, x .loop-test .taken),
-      stored-turn (sidesBlend (now (a .here)) (now (a .next)) (now (a .fractions))) (a .output) (now (a .frame)) (l .loop .i) (l .loop .frame) _ (b .blend .result) _ refl (l .loop .inv .1) s
+      stored-turn samples (a .output) (now (a .frame)) (l .loop .i) (l .loop .frame) _ (b .blend .result) _ refl (l .loop .inv .1) s
           (c .put .ensures),
     )
 
@@ -75,8 +78,9 @@ returns : tie.Need-returns Inv-loop μ-loop
 returns c =
     let l = c .before in
     let a = l .before .args in
+    let samples = sidesBlend (now (a .here)) (now (a .next)) (now (a .fractions)) in
     let e : l .loop .i ≡ a .count = omega (arith, l .loop .inv .0, c .loop-test .left) in
-    l .loop .inv .1 ∙ ap (λ (n : ℕ). stored (sidesBlend (now (a .here)) (now (a .next)) (now (a .fractions))) (a .output) n (now (a .frame))) e
+    l .loop .inv .1 ∙ ap (λ (n : ℕ). stored samples (a .output) n (now (a .frame))) e
 
 pub blend-sides-spec : {M : Type 1} → statement M
 blend-sides-spec =

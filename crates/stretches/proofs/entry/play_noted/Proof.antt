@@ -12,7 +12,8 @@ use Rattle.stretches.proofs.entry.play_noted.Tie as tie
 blended-noted : (c : tie.Else1) → let a = c .before .before .before .args in
     stored (blendedAt (now (a .lane)) (now (a .bytes)) (a .t .playing) (now (a .places)) (now (a .fractions))) (a .output) (a .count)
     (now (a .frame))
-    ≡ stored (notedAt (now (a .lane)) (now (a .bytes)) (a .t) (now (a .places)) (now (a .fractions))) (a .output) (a .count) (now (a .frame))
+    ≡ stored (notedAt (now (a .lane)) (now (a .bytes)) (a .t) (now (a .places)) (now (a .fractions))) (a .output) (a .count) (now
+    (a .frame))
 blended-noted c =
     let a = c .before .before .before .args in
     let lane = now (a .lane) in

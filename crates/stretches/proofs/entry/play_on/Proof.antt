@@ -66,7 +66,8 @@ returns c =
     let long : 1 < a .t .length = omega (arith, d .before .before .if1 .taken, p .1 .1 .0) in (
       onward (a .t) (a .c) (160 - a .output) (c .play-held .result) (h .0),
       h .1
-          ∙ ap (λ (l : List ℕ). stored (soundAfter (now (a .lane)) l (a .t) (a .c)) (a .output) (c .play-held .result .count) (now (a .frame)))
+          ∙ ap (λ (l : List ℕ). stored (soundAfter (now (a .lane)) l (a .t) (a .c)) (a .output) (c .play-held .result .count)
+          (now (a .frame)))
           (b .entry-bytes .ensures)
           ∙ stored-laid (soundAfter (now (a .lane)) (entryBytes (now (a .window)) (a .base) (a .t .playing)) (a .t) (a .c)) (a .output)
           (now (a .frame)) (now (a .window)) (a .base) (now (a .lane)) (a .t) (a .c) (c .play-held .result .count)

@@ -23,7 +23,12 @@ count-less c =
     let d = s .args .c in
     let zero = s .pre .1 .1 .1 .1 .1 .1 .1 in
     ⊎-elim
-    (λ l. absurd (omega (arith, c .reach .ensures .inside (d .remaining) (omega arith), after-remaining (d .remaining) d zero (omega arith))))
+    (λ l. absurd (omega (
+      arith,
+      c .reach .ensures .inside (d .remaining) (omega arith),
+      after-remaining (d .remaining) d zero
+          (omega arith),
+    )))
     (λ l. l) (below-or (d .remaining) (c .reach .result .count))
 
 sub-reach : tie.Need-sub-reach

@@ -18,7 +18,8 @@ abbrev μ-loop : tie.MeasureT-loop
 loop-holds : tie.Need-loop-holds Inv-loop μ-loop
 loop-holds c =
     let a = c .before .args in
-    (omega arith, stored-none (hereAt (now (a .lane)) (now (a .bytes)) (a .e) (now (a .places))) (a .output) (now (a .frame)))
+    let samples = hereAt (now (a .lane)) (now (a .bytes)) (a .e) (now (a .places)) in
+    (omega arith, stored-none samples (a .output) (now (a .frame)))
 
 mul-place : tie.Need-mul-place Inv-loop μ-loop
 mul-place c = omega arith
@@ -46,9 +47,10 @@ put-requires : tie.Need-put-requires Inv-loop μ-loop
 put-requires c κs =
     let l = c .before .before .before .before in
     let s = l .before .before in
-    let a = s .args in (
+    let a = s .args in
+    let samples = hereAt (now (a .lane)) (now (a .bytes)) (a .e) (now (a .places)) in (
       omega (arith, s .pre .1 .1 .0, c .before .before .before .loop-test .taken),
-      stored-long (hereAt (now (a .lane)) (now (a .bytes)) (a .e) (now (a .places))) (a .output) (now (a .frame)) (l .loop .i) (l .loop .frame) (l .loop .inv .1) (s .pre .1 .1 .1),
+      stored-long samples (a .output) (now (a .frame)) (l .loop .i) (l .loop .frame) (l .loop .inv .1) (s .pre .1 .1 .1),
     )
 
 add-i : tie.Need-add-i Inv-loop μ-loop
@@ -61,9 +63,10 @@ loop-again : tie.Need-loop-again Inv-loop μ-loop
 loop-again c =
     let x = c .before .before in
     let l = x .before .before .before in
-    let a = l .before .before .args in (
+    let a = l .before .before .args in
+    let samples = hereAt (now (a .lane)) (now (a .bytes)) (a .e) (now (a .places)) in (
       omega (arith, x .before .before .loop-test .taken),
-      stored-turn (hereAt (now (a .lane)) (now (a .bytes)) (a .e) (now (a .places))) (a .output) (now (a .frame)) (l .loop .i) (l .loop .frame) _ (x .sample-in .result) _ refl (l .loop .inv .1)
+      stored-turn samples (a .output) (now (a .frame)) (l .loop .i) (l .loop .frame) _ (x .sample-in .result) _ refl (l .loop .inv .1)
           (x .sample-in .ensures) (c .put .ensures),
     )
 
@@ -71,8 +74,9 @@ returns : tie.Need-returns Inv-loop μ-loop
 returns c =
     let l = c .before in
     let a = l .before .before .args in
+    let samples = hereAt (now (a .lane)) (now (a .bytes)) (a .e) (now (a .places)) in
     let e : l .loop .i ≡ a .count = omega (arith, l .loop .inv .0, c .loop-test .left) in
-    l .loop .inv .1 ∙ ap (λ (n : ℕ). stored (hereAt (now (a .lane)) (now (a .bytes)) (a .e) (now (a .places))) (a .output) n (now (a .frame))) e
+    l .loop .inv .1 ∙ ap (λ (n : ℕ). stored samples (a .output) n (now (a .frame))) e
 
 pub fetch-spec : {M : Type 1} → statement M
 fetch-spec =

@@ -23,7 +23,8 @@ abbrev μ-loop : tie.MeasureT-loop
 loop-holds : tie.Need-loop-holds Inv-loop μ-loop
 loop-holds c =
     let a = c .before .args in
-    (omega arith, stored-none (pairAt (now (a .lane)) (now (a .bytes)) (a .e) (now (a .places))) 0 (now (a .pairs)))
+    let samples = pairAt (now (a .lane)) (now (a .bytes)) (a .e) (now (a .places)) in
+    (omega arith, stored-none samples 0 (now (a .pairs)))
 
 mul-place : tie.Need-mul-place Inv-loop μ-loop
 mul-place c = omega arith
@@ -64,9 +65,10 @@ put-requires c κs =
     let p = c .before .before .before .before .before in
     let l = p .before .before in
     let s = l .before .before in
-    let a = s .args in (
+    let a = s .args in
+    let samples = pairAt (now (a .lane)) (now (a .bytes)) (a .e) (now (a .places)) in (
       omega (arith, s .pre .1 .1 .0, p .before .loop-test .taken),
-      stored-long (pairAt (now (a .lane)) (now (a .bytes)) (a .e) (now (a .places))) 0 (now (a .pairs)) (l .loop .i) (l .loop .pairs) (l .loop .inv .1) (s .pre .1 .1 .1),
+      stored-long samples 0 (now (a .pairs)) (l .loop .i) (l .loop .pairs) (l .loop .inv .1) (s .pre .1 .1 .1),
     )
 
 add-i : tie.Need-add-i Inv-loop μ-loop
@@ -82,6 +84,7 @@ loop-again c =
     let x = y .before in
     let l = x .before .before .before in
     let a = l .before .before .args in
+    let samples = pairAt (now (a .lane)) (now (a .bytes)) (a .e) (now (a .places)) in
     let left : toZ w16 (ofZ w16 (x .sample-in .result .left)) ≡ x .sample-in .result .left =
     toZ-ofZ (record { sfits = t .struct-told .given .0 .1 }) in
     let right : toZ w16 (ofZ w16 (y .sample-in2 .result .left)) ≡ y .sample-in2 .result .left =
@@ -89,7 +92,7 @@ loop-again c =
     let from = left ∙ ap (λ (s : Sample). s .left) (x .sample-in .ensures) in
     let to = right ∙ ap (λ (s : Sample). s .left) (y .sample-in2 .ensures) in (
       omega (arith, x .before .before .loop-test .taken),
-      stored-turn (pairAt (now (a .lane)) (now (a .bytes)) (a .e) (now (a .places))) 0 (now (a .pairs)) (l .loop .i) (l .loop .pairs) _ _ (l .loop .i) (omega arith) (l .loop .inv .1)
+      stored-turn samples 0 (now (a .pairs)) (l .loop .i) (l .loop .pairs) _ _ (l .loop .i) (omega arith) (l .loop .inv .1)
           (λ i. stereoSample (from i) (to i)) (c .put .ensures),
     )
 
@@ -97,8 +100,9 @@ returns : tie.Need-returns Inv-loop μ-loop
 returns c =
     let l = c .before in
     let a = l .before .before .args in
+    let samples = pairAt (now (a .lane)) (now (a .bytes)) (a .e) (now (a .places)) in
     let e : l .loop .i ≡ a .count = omega (arith, l .loop .inv .0, c .loop-test .left) in
-    l .loop .inv .1 ∙ ap (λ (n : ℕ). stored (pairAt (now (a .lane)) (now (a .bytes)) (a .e) (now (a .places))) 0 n (now (a .pairs))) e
+    l .loop .inv .1 ∙ ap (λ (n : ℕ). stored samples 0 n (now (a .pairs))) e
 
 pub fetch-pairs-spec : {M : Type 1} → statement M
 fetch-pairs-spec =

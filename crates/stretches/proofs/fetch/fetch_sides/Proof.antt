@@ -10,7 +10,9 @@ use Rattle.stretches.proofs.fetch.fetch_sides.Tie as tie
 
 abbrev Inv-loop : tie.InvT-loop
 Inv-loop lane bytes e places count here₀ next₀ i₀ here next i =
-    (i ≤ count) × (here ≡ stored (hereAt lane bytes e places) 0 i here₀) × (next ≡ stored (nextAt lane bytes e places) 0 i next₀)
+    (i ≤ count)
+    × (here ≡ stored (hereAt lane bytes e places) 0 i here₀)
+    × (next ≡ stored (nextAt lane bytes e places) 0 i next₀)
 
 abbrev μ-loop : tie.MeasureT-loop
 μ-loop lane bytes e places count here₀ next₀ i₀ here next i = count - i
@@ -18,7 +20,9 @@ abbrev μ-loop : tie.MeasureT-loop
 loop-holds : tie.Need-loop-holds Inv-loop μ-loop
 loop-holds c =
     let a = c .before .args in
-    (omega arith, stored-none (hereAt (now (a .lane)) (now (a .bytes)) (a .e) (now (a .places))) 0 (now (a .here)), stored-none (nextAt (now (a .lane)) (now (a .bytes)) (a .e) (now (a .places))) 0 (now (a .next)))
+    let samples = hereAt (now (a .lane)) (now (a .bytes)) (a .e) (now (a .places)) in
+    let nexts = nextAt (now (a .lane)) (now (a .bytes)) (a .e) (now (a .places)) in
+    (omega arith, stored-none samples 0 (now (a .here)), stored-none nexts 0 (now (a .next)))
 
 mul-place : tie.Need-mul-place Inv-loop μ-loop
 mul-place c = omega arith
@@ -59,9 +63,10 @@ put-requires c κs =
     let p = c .before .before .before in
     let l = p .before .before in
     let s = l .before .before in
-    let a = s .args in (
+    let a = s .args in
+    let samples = hereAt (now (a .lane)) (now (a .bytes)) (a .e) (now (a .places)) in (
       omega (arith, s .pre .1 .1 .0, p .before .loop-test .taken),
-      stored-long (hereAt (now (a .lane)) (now (a .bytes)) (a .e) (now (a .places))) 0 (now (a .here)) (l .loop .i) (l .loop .here) (l .loop .inv .1) (s .pre .1 .1 .1 .0),
+      stored-long samples 0 (now (a .here)) (l .loop .i) (l .loop .here) (l .loop .inv .1) (s .pre .1 .1 .1 .0),
     )
 
 put-requires-2 : tie.Need-put-requires-2 Inv-loop μ-loop
@@ -69,9 +74,10 @@ put-requires-2 c κs =
     let p = c .before .before .before .before .before in
     let l = p .before .before in
     let s = l .before .before in
-    let a = s .args in (
+    let a = s .args in
+    let nexts = nextAt (now (a .lane)) (now (a .bytes)) (a .e) (now (a .places)) in (
       omega (arith, s .pre .1 .1 .0, p .before .loop-test .taken),
-      stored-long (nextAt (now (a .lane)) (now (a .bytes)) (a .e) (now (a .places))) 0 (now (a .next)) (l .loop .i) (l .loop .next) (l .loop .inv .2) (s .pre .1 .1 .1 .1),
+      stored-long nexts 0 (now (a .next)) (l .loop .i) (l .loop .next) (l .loop .inv .2) (s .pre .1 .1 .1 .1),
     )
 
 add-i : tie.Need-add-i Inv-loop μ-loop
@@ -86,11 +92,15 @@ loop-again c =
     let y = p .before .before in
     let x = y .before in
     let l = x .before .before .before in
-    let a = l .before .before .args in (
+    let a = l .before .before .args in
+    let samples = hereAt (now (a .lane)) (now (a .bytes)) (a .e) (now (a .places)) in
+    let nexts = nextAt (now (a .lane)) (now (a .bytes)) (a .e) (now (a .places)) in (
       omega (arith, x .before .before .loop-test .taken),
-      stored-turn (hereAt (now (a .lane)) (now (a .bytes)) (a .e) (now (a .places))) 0 (now (a .here)) (l .loop .i) (l .loop .here) _ (x .sample-in .result) (l .loop .i) (omega arith) (l .loop .inv .1)
+      stored-turn samples 0 (now (a .here)) (l .loop .i) (l .loop .here) _ (x .sample-in .result) (l .loop .i) (omega arith)
+          (l .loop .inv .1)
           (x .sample-in .ensures) (p .put .ensures),
-      stored-turn (nextAt (now (a .lane)) (now (a .bytes)) (a .e) (now (a .places))) 0 (now (a .next)) (l .loop .i) (l .loop .next) _ (y .sample-in2 .result) (l .loop .i) (omega arith) (l .loop .inv .2)
+      stored-turn nexts 0 (now (a .next)) (l .loop .i) (l .loop .next) _ (y .sample-in2 .result) (l .loop .i) (omega arith)
+          (l .loop .inv .2)
           (y .sample-in2 .ensures) (c .put2 .ensures),
     )
 
@@ -98,9 +108,11 @@ returns : tie.Need-returns Inv-loop μ-loop
 returns c =
     let l = c .before in
     let a = l .before .before .args in
+    let samples = hereAt (now (a .lane)) (now (a .bytes)) (a .e) (now (a .places)) in
+    let nexts = nextAt (now (a .lane)) (now (a .bytes)) (a .e) (now (a .places)) in
     let e : l .loop .i ≡ a .count = omega (arith, l .loop .inv .0, c .loop-test .left) in (
-      l .loop .inv .1 ∙ ap (λ (n : ℕ). stored (hereAt (now (a .lane)) (now (a .bytes)) (a .e) (now (a .places))) 0 n (now (a .here))) e,
-      l .loop .inv .2 ∙ ap (λ (n : ℕ). stored (nextAt (now (a .lane)) (now (a .bytes)) (a .e) (now (a .places))) 0 n (now (a .next))) e,
+      l .loop .inv .1 ∙ ap (λ (n : ℕ). stored samples 0 n (now (a .here))) e,
+      l .loop .inv .2 ∙ ap (λ (n : ℕ). stored nexts 0 n (now (a .next))) e,
     )
 
 pub fetch-sides-spec : {M : Type 1} → statement M
