@@ -4,6 +4,7 @@ use numbers::sizes::FRAME_SAMPLES;
 use steps::step::Cursor;
 use steps::step::step;
 use steps::stretch::Reached;
+use stretches::entry::play_on;
 use track::Track;
 use track::put;
 use track::sound;
@@ -13,7 +14,8 @@ ghost use lib.ListN.{length};
 ghost use Rattle.numbers.specs.Sizes.{«FRAME_SAMPLES», FRAME};
 ghost use Rattle.track.specs.Laid.{laid, Turned};
 
-// Plays on into the frame from `output`: at least one sample, and on until the frame is full or nothing remains.
+// Plays on into the frame from `output`: at least one sample, and on until the frame is full or nothing remains. As far as they go,
+// stretches are played the quick way; between them a sample at a time.
 pub fn play_entry(
     window: &[u8],
     base: u32,
@@ -34,6 +36,15 @@ pub fn play_entry(
     let mut at = c;
     let mut n = 0;
     loop {
+        let r = play_on(window, base, lane, t, at, frame, output + n);
+        at = r.cursor;
+        n += r.count;
+        if output + n >= FRAME_SAMPLES {
+            return Reached {
+                cursor: at,
+                count: n,
+            };
+        }
         let s = sound(window, base, lane, t, at);
         put(frame, output + n, s);
         at = step(at, t.rate);

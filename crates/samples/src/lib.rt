@@ -29,7 +29,7 @@ pub fn silent() -> Sample
 }
 
 // The same on both sides.
-fn alike(value: i16) -> Sample
+pub fn alike(value: i16) -> Sample
     ensures { λ r. ⌜ r ≡ both value ⌝ }
 {
     Sample {
@@ -39,7 +39,7 @@ fn alike(value: i16) -> Sample
 }
 
 // A byte as the upper half of a value.
-fn high_byte(byte: u8) -> i16
+pub fn high_byte(byte: u8) -> i16
     ensures { λ r. ⌜ r ≡ highByte byte ⌝ }
 {
     to_signed16((byte as u16) * 256)

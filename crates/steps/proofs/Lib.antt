@@ -1,5 +1,4 @@
 pub mod Compose
-pub mod Front
 pub mod Kept
 pub mod Steady
 pub mod Walk

@@ -1,15 +1,10 @@
--- Steps at rate 1.0 from a fraction of 0.0: one sample goes by, the fraction stays 0.0, and what is produced is the sample itself. Assumes
--- nothing.
+-- Steps at rate 1.0 from a fraction of 0.0: one sample goes by, and the fraction stays 0.0. Assumes nothing.
 use mathlib.Core.Path.{_≡_, refl, sym, ap, _∙_, subst}
 use mathlib.Core.Bool.{Bool, true, false, _&&_, _||_, Bool·beq, true≢false}
-use mathlib.Core.List.{List}
 use Prim.Native.Nat.{ℕ, zero, suc, _+_, _-_, _*_, _≤_, _<_, min}
 use native.Mathlib.Nat.{zero-lt-suc}
-use native.Mathlib.Numerals.{add-one}
 use native.Mathlib.Omega.{arith}
-use lib.IntN.{ℤ, pos}
-use lib.Signed.{mag}
-use lib.ListN.{length, getD}
+use lib.IntN.{pos}
 use lib.Dec.{T, eqb, eqb→eq}
 use lib.Ieee.Fits.{and-l, and-r, down-pos}
 use lib.Ieee.Back.{whole-unique}
@@ -18,10 +13,10 @@ use Rattle.numbers.specs.Casts.{cast-u32, double}
 use Rattle.numbers.specs.Literals.{+0, +1}
 use Rattle.numbers.specs.Held.{at-least-0}
 use Rattle.numbers.proofs.Value.{add-value}
-use Rattle.mixing.proofs.AtZero.{zero-value, interpolate-at-zero}
+use Rattle.mixing.proofs.AtZero.{zero-value}
 use Rattle.steps.specs.declared.step.Cursor.{Cursor}
 use Rattle.steps.specs.Step.{moved, left, consumed}
-use Rattle.steps.specs.Stretch.{after, between, both, played, Stretched}
+use Rattle.steps.specs.Stretch.{after, Stretched}
 
 one-fits : T (fits binary64 +1)
 unfolding fits
@@ -74,29 +69,10 @@ unfolding after
 after-remaining zero c e h = omega arith
 after-remaining (suc n) c e h = ap (λ (d : Cursor). d .remaining) (after-plain n c e (omega arith))
 
-after-zero : (n : ℕ) (c : Cursor) → eq (c .fraction) +0 ≡ true → n ≤ c .remaining → eq (after +1 n c .fraction) +0 ≡ true
+pub after-zero : (n : ℕ) (c : Cursor) → eq (c .fraction) +0 ≡ true → n ≤ c .remaining → eq (after +1 n c .fraction) +0 ≡ true
 unfolding after
 after-zero zero c e h = e
 after-zero (suc n) c e h = ap (λ (d : Cursor). eq (d .fraction) +0) (after-plain n c e (omega arith)) ∙ zero-is
-
--- one sample more
-pub played-plain :
-    (c : Cursor) (samples : List ℤ) (output n : ℕ) (frame : List ℤ) → eq (c .fraction) +0 ≡ true → n ≤ c .remaining
-    → c .remaining ≤ length samples
-    → mag (getD samples (length samples - c .remaining + n) (pos 0)) < 32768
-    → mag (getD samples (length samples - c .remaining + n + 1) (pos 0)) < 32768
-    → played +1 c samples output (n + 1) frame ≡ both (played +1 c samples output n frame) (output + n)
-    (getD samples (length samples - c .remaining + n) (pos 0))
-unfolding played between
-played-plain c samples output n frame e h k a b =
-    let here : length samples - after +1 n c .remaining ≡ length samples - c .remaining + n = omega (arith, after-remaining n c e h) in
-    ap (λ (m : ℕ). played +1 c samples output m frame) (add-one n)
-    ∙ ap (both (played +1 c samples output n frame) (output + n))
-    (interpolate-at-zero (getD samples (length samples - after +1 n c .remaining) (pos 0))
-    (getD samples (length samples - after +1 n c .remaining + 1) (pos 0)) (after +1 n c .fraction)
-    (subst (λ (m : ℕ). mag (getD samples m (pos 0)) < 32768) (sym here) a)
-    (subst (λ (m : ℕ). mag (getD samples (m + 1) (pos 0)) < 32768) (sym here) b) (after-zero n c e h)
-    ∙ ap (λ (m : ℕ). getD samples m (pos 0)) here)
 
 -- how far it came
 pub after-some :
@@ -107,10 +83,6 @@ after-some (suc n) c e p h = after-plain n c e (omega arith)
 
 inside-plain : (n : ℕ) (c : Cursor) → eq (c .fraction) +0 ≡ true → n + 1 < c .remaining → (j : ℕ) → j ≤ n → 1 < after +1 j c .remaining
 inside-plain n c e h j k = omega (arith, after-remaining j c e (omega arith))
-
-pub none-played : (c : Cursor) (samples : List ℤ) (output : ℕ) (frame : List ℤ) → frame ≡ played +1 c samples output 0 frame
-unfolding played
-none-played c samples output frame = refl
 
 pub none-reached :
     (c : Cursor) (room : ℕ) → eq (c .fraction) +0 ≡ true → 1 < c .remaining → Stretched +1 c room (record { cursor = c; count = 0 })

@@ -1,23 +1,20 @@
-// A stretch of an entry with one channel, interpolated: as many samples as the frame has room for and the entry has the next two for.
-// First where each sample lies and its fraction, one after the other; then the samples between, which the compiler does several at a
-// time.
+// A walk through an entry: where each produced sample lies in it, and how far it is from there to the next, for as many as there is room
+// and the entry has two left.
 use crate::step::Cursor;
-use mixing::interpolate::interpolate;
 use numbers::casts::at_least_0;
 use numbers::casts::whole_u32;
-use numbers::sizes::FRAME;
 use numbers::sizes::FRAME_SAMPLES;
 ghost use mathlib.Core.Path.{_≡_};
-ghost use Prim.Native.Nat.{_≤_, _<_, _+_, _-_};
+ghost use Prim.Native.Nat.{_≤_, _<_};
 ghost use lib.ListN.{length};
 ghost use mathlib.Core.Bool.{cond};
 ghost use lib.IntN.{pos};
 ghost use lib.Ieee.{lt};
 ghost use Rattle.numbers.specs.Casts.{cast-u32, double};
 ghost use Rattle.numbers.specs.Literals.{+0, +1};
-ghost use Rattle.numbers.specs.Sizes.{«FRAME_SAMPLES», FRAME};
+ghost use Rattle.numbers.specs.Sizes.{«FRAME_SAMPLES»};
 ghost use Rattle.steps.specs.Steady.{Part, Slow, is-part, is-slow, steady};
-ghost use Rattle.steps.specs.Stretch.{Walked, Stretched, laid, played};
+ghost use Rattle.steps.specs.Stretch.{Walked, Stretched};
 
 // How far a stretch came: where it left off, and how many samples it made.
 pub struct Reached {
@@ -34,46 +31,42 @@ fn counted(w: f64) -> usize
     (w as i64) as usize
 }
 
-fn places(x: f64) -> usize
+fn whole_part(x: f64) -> usize
     ensures { λ r. ⌜ r ≡ cast-u32 x ⌝ }
     ensures { λ r. ⌜ r < 4294967296 ⌝ }
 {
     counted(whole_u32(x))
 }
 
-// The two samples that each produced one lies between, and how far, until the entry has no two left.
+// Where each sample lies and its fraction, until the entry has no two left.
 fn walk_any(
-    samples: &[i16],
+    size: u32,
     rate: f64,
     c: Cursor,
     room: usize,
-    pairs: &mut [i16; FRAME],
+    places: &mut [u32; FRAME_SAMPLES],
     fractions: &mut [f64; FRAME_SAMPLES],
 ) -> Reached
     requires { ⌜ room ≤ «FRAME_SAMPLES» ⌝ }
     requires { ⌜ 1 < c .remaining ⌝ }
-    requires { ⌜ c .remaining ≤ length (now samples) ⌝ }
-    requires { ⌜ length (now samples) < 4294967296 ⌝ }
-    requires { ⌜ length (now pairs) ≡ FRAME ⌝ }
+    requires { ⌜ c .remaining ≤ size ⌝ }
+    requires { ⌜ length (now places) ≡ «FRAME_SAMPLES» ⌝ }
     requires { ⌜ length (now fractions) ≡ «FRAME_SAMPLES» ⌝ }
     ensures { λ r. ⌜ Stretched rate c room r ⌝ }
-    ensures { λ r. ⌜ Walked rate c (now (samples .entry)) (now (pairs .exit)) (now (fractions .exit)) (r .count) ⌝ }
+    ensures { λ r. ⌜ Walked rate c size (now (places .exit)) (now (fractions .exit)) (r .count) ⌝ }
 {
-    let length = samples.len();
-    let last = length - 1;
-    let mut at = length - (c.remaining as usize);
+    let end = size as usize;
+    let last = end - 1;
+    let mut at = end - (c.remaining as usize);
     let mut fraction = c.fraction;
     let mut k = 0;
     while k < room {
         let input = fraction + rate;
-        let next = at + places(input);
+        let next = at + whole_part(input);
         if next >= last {
             break;
         }
-        let a = samples[at];
-        let b = samples[at + 1];
-        pairs[k * 2] = a;
-        pairs[k * 2 + 1] = b;
+        places[k] = at as u32;
         fractions[k] = fraction;
         fraction = at_least_0(input - whole_u32(input));
         at = next;
@@ -81,7 +74,7 @@ fn walk_any(
     }
     Reached {
         cursor: Cursor {
-            remaining: (length - at) as u32,
+            remaining: (end - at) as u32,
             fraction: fraction,
         },
         count: k,
@@ -119,27 +112,26 @@ fn is_steady(fraction: f64, rate: f64) -> bool
 // The same from a fraction below 1 at a rate below 2^31: a step takes the whole part of the rate, or one more. Were what is left not
 // below 1, it stops.
 fn walk_steady(
-    samples: &[i16],
+    size: u32,
     rate: f64,
     c: Cursor,
     room: usize,
-    pairs: &mut [i16; FRAME],
+    places: &mut [u32; FRAME_SAMPLES],
     fractions: &mut [f64; FRAME_SAMPLES],
 ) -> Reached
     requires { ⌜ room ≤ «FRAME_SAMPLES» ⌝ }
     requires { ⌜ 1 < c .remaining ⌝ }
-    requires { ⌜ c .remaining ≤ length (now samples) ⌝ }
-    requires { ⌜ length (now samples) < 4294967296 ⌝ }
-    requires { ⌜ length (now pairs) ≡ FRAME ⌝ }
+    requires { ⌜ c .remaining ≤ size ⌝ }
+    requires { ⌜ length (now places) ≡ «FRAME_SAMPLES» ⌝ }
     requires { ⌜ length (now fractions) ≡ «FRAME_SAMPLES» ⌝ }
     requires { ⌜ Part (c .fraction) ⌝ }
     requires { ⌜ Slow rate ⌝ }
     ensures { λ r. ⌜ Stretched rate c room r ⌝ }
-    ensures { λ r. ⌜ Walked rate c (now (samples .entry)) (now (pairs .exit)) (now (fractions .exit)) (r .count) ⌝ }
+    ensures { λ r. ⌜ Walked rate c size (now (places .exit)) (now (fractions .exit)) (r .count) ⌝ }
 {
-    let length = samples.len();
-    let last = length - 1;
-    let mut at = length - (c.remaining as usize);
+    let end = size as usize;
+    let last = end - 1;
+    let mut at = end - (c.remaining as usize);
     let mut fraction = c.fraction;
     let mut k = 0;
     let whole = whole_u32(rate);
@@ -155,10 +147,7 @@ fn walk_steady(
         if next >= last {
             break;
         }
-        let a = samples[at];
-        let b = samples[at + 1];
-        pairs[k * 2] = a;
-        pairs[k * 2 + 1] = b;
+        places[k] = at as u32;
         fractions[k] = fraction;
         fraction = left;
         at = next;
@@ -166,82 +155,32 @@ fn walk_steady(
     }
     Reached {
         cursor: Cursor {
-            remaining: (length - at) as u32,
+            remaining: (end - at) as u32,
             fraction: fraction,
         },
         count: k,
     }
 }
 
-fn walk(
-    samples: &[i16],
+// The walk at any rate, the quick way where it goes.
+pub fn walk(
+    size: u32,
     rate: f64,
     c: Cursor,
     room: usize,
-    pairs: &mut [i16; FRAME],
+    places: &mut [u32; FRAME_SAMPLES],
     fractions: &mut [f64; FRAME_SAMPLES],
 ) -> Reached
     requires { ⌜ room ≤ «FRAME_SAMPLES» ⌝ }
     requires { ⌜ 1 < c .remaining ⌝ }
-    requires { ⌜ c .remaining ≤ length (now samples) ⌝ }
-    requires { ⌜ length (now samples) < 4294967296 ⌝ }
-    requires { ⌜ length (now pairs) ≡ FRAME ⌝ }
+    requires { ⌜ c .remaining ≤ size ⌝ }
+    requires { ⌜ length (now places) ≡ «FRAME_SAMPLES» ⌝ }
     requires { ⌜ length (now fractions) ≡ «FRAME_SAMPLES» ⌝ }
     ensures { λ r. ⌜ Stretched rate c room r ⌝ }
-    ensures { λ r. ⌜ Walked rate c (now (samples .entry)) (now (pairs .exit)) (now (fractions .exit)) (r .count) ⌝ }
+    ensures { λ r. ⌜ Walked rate c size (now (places .exit)) (now (fractions .exit)) (r .count) ⌝ }
 {
     if is_steady(c.fraction, rate) {
-        return walk_steady(samples, rate, c, room, pairs, fractions);
+        return walk_steady(size, rate, c, room, places, fractions);
     }
-    walk_any(samples, rate, c, room, pairs, fractions)
-}
-
-// The samples between, both channels alike.
-fn lay(
-    pairs: &[i16; FRAME],
-    fractions: &[f64; FRAME_SAMPLES],
-    count: usize,
-    frame: &mut [i16; FRAME],
-    output: usize,
-)
-    requires { ⌜ output + count ≤ «FRAME_SAMPLES» ⌝ }
-    ensures { λ _. ⌜ now (frame .exit) ≡ laid (now (pairs .entry)) (now (fractions .entry)) output count (now (frame .entry)) ⌝ }
-{
-    let mut i = 0;
-    while i < count {
-        let s = interpolate(pairs[i * 2], pairs[i * 2 + 1], fractions[i]);
-        let k = (output + i) * 2;
-        frame[k] = s;
-        frame[k + 1] = s;
-        i += 1;
-    }
-}
-
-// Plays on into the frame from `output`.
-pub fn stretch(
-    samples: &[i16],
-    rate: f64,
-    c: Cursor,
-    frame: &mut [i16; FRAME],
-    output: usize,
-) -> Reached
-    requires { ⌜ output ≤ «FRAME_SAMPLES» ⌝ }
-    requires { ⌜ 1 < c .remaining ⌝ }
-    requires { ⌜ c .remaining ≤ length (now samples) ⌝ }
-    requires { ⌜ length (now samples) < 4294967296 ⌝ }
-    ensures { λ r. ⌜ Stretched rate c («FRAME_SAMPLES» - output) r ⌝ }
-    ensures { λ r. ⌜ now (frame .exit) ≡ played rate c (now (samples .entry)) output (r .count) (now (frame .entry)) ⌝ }
-{
-    let mut pairs = [0i16; FRAME];
-    let mut fractions = [0.0f64; FRAME_SAMPLES];
-    let w = walk(
-        samples,
-        rate,
-        c,
-        FRAME_SAMPLES - output,
-        &mut pairs,
-        &mut fractions,
-    );
-    lay(&pairs, &fractions, w.count, frame, output);
-    w
+    walk_any(size, rate, c, room, places, fractions)
 }

@@ -32,11 +32,11 @@ pub after-suc : (t : Track) (c : Cursor) (n : ℕ) → after (t .rate) (suc n) c
 unfolding after
 after-suc t c n = refl
 
-module _ (window : List ℕ) (base : ℕ) (lane : List ℤ) (t : Track) where
-  pub put-length : (frame : List ℤ) (k : ℕ) (s : Sample) → length (put frame k s) ≡ length frame
-  unfolding put
-  put-length frame k s = simp length-set
+pub put-length : (frame : List ℤ) (k : ℕ) (s : Sample) → length (put frame k s) ≡ length frame
+unfolding put
+put-length frame k s = simp length-set
 
+module _ (window : List ℕ) (base : ℕ) (lane : List ℤ) (t : Track) where
   pub laid-length : (c : Cursor) (output n : ℕ) (frame : List ℤ) → length (laid window base lane t c output n frame) ≡ length frame
   unfolding laid
   laid-length c output zero frame = refl

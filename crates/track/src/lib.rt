@@ -90,7 +90,7 @@ pub fn heard_at(window: &[u8], base: u32, lane: &[i16], t: Track, place: usize) 
     silent()
 }
 
-fn between(a: Sample, b: Sample, fraction: f64) -> Sample
+pub fn between(a: Sample, b: Sample, fraction: f64) -> Sample
     ensures { λ r. ⌜ r ≡ betweenSamples a b fraction ⌝ }
 {
     Sample {

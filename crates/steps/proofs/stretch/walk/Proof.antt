@@ -13,9 +13,8 @@ walk-steady-requires c κs =
     let t = c .before .before in
     let s = t .before .before in
     let p = s .pre in
-    let q = p .1 .1 .1 in
     let steady = steady-says (s .args .c .fraction) (s .args .rate) (sym (t .before .is-steady .ensures) ∙ t .if1 .taken) in
-    (p .0, (p .1 .0, (p .1 .1 .0, (q .0, (q .1 .0, (q .1 .1, steady))))))
+    (p .0, (p .1 .0, (p .1 .1 .0, (p .1 .1 .1 .0, (p .1 .1 .1 .1, steady)))))
 
 returns : tie.Need-returns
 returns c = search needs

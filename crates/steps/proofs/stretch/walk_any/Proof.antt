@@ -1,26 +1,21 @@
 -- `steps::stretch::walk_any` meets its contract: a turn is one step, by the laws of Walk. Assumes nothing.
 use mathlib.Core.Path.{_≡_, refl, ap, _∙_, subst}
-use Prim.Native.Nat.{ℕ, _-_, _+_}
+use Prim.Native.Nat.{ℕ, _-_}
 use native.Mathlib.Omega.{arith}
-use lib.ListN.{length, getD}
-use lib.IntN.{pos}
 use lib.Ieee.{Float, binary64, add, sub}
 use Rattle.numbers.specs.Held.{at-least-0}
 use denote.Ref.{now}
-use mir.Syntax.{w16}
-use mir.Val.{toZ, ofZ}
-use mir.Facts.{toZ-ofZ}
 use borrow.Author.Needs.{needs}
 use Rattle.steps.proofs.Walk.{Loop, turn, begun}
 use Rattle.steps.proofs.stretch.walk_any.Statement.{statement}
 use Rattle.steps.proofs.stretch.walk_any.Tie as tie
 
 abbrev Inv-loop : tie.InvT-loop
-Inv-loop samples rate room pairs₀ fractions₀ length last at₀ fraction₀ k₀ pairs fractions at fraction k =
-    Loop rate (record { remaining = length - at₀; fraction = fraction₀ }) samples pairs fractions room at fraction k
+Inv-loop size rate room places₀ fractions₀ end last at₀ fraction₀ k₀ places fractions at fraction k =
+    Loop rate (record { remaining = end - at₀; fraction = fraction₀ }) size places fractions room at fraction k
 
 abbrev μ-loop : tie.MeasureT-loop
-μ-loop samples rate room pairs₀ fractions₀ length last at₀ fraction₀ k₀ pairs fractions at fraction k =
+μ-loop size rate room places₀ fractions₀ end last at₀ fraction₀ k₀ places fractions at fraction k =
     room - k
 
 sub-last : tie.Need-sub-last Inv-loop μ-loop
@@ -35,51 +30,24 @@ sub-at c = omega arith
 loop-holds : tie.Need-loop-holds Inv-loop μ-loop
 loop-holds c =
     let a = c .before .args in
-    let q = c .before .pre .1 .1 .1 .1 in
-    begun (a .rate) _ (now (a .samples)) (now (a .pairs)) (now (a .fractions)) (a .room) (length (now (a .samples)) - a .c .remaining)
-    (a .c .fraction) (omega arith) (q .0) (q .1) refl
+    let q = c .before .pre .1 .1 .1 in
+    begun (a .rate) _ (a .size) (now (a .places)) (now (a .fractions)) (a .room) (a .size - a .c .remaining) (a .c .fraction) (omega arith)
+    (q .0) (q .1) refl
 
-places-requires : tie.Need-places-requires Inv-loop μ-loop
-places-requires c κs = search needs
+whole-part-requires : tie.Need-whole-part-requires Inv-loop μ-loop
+whole-part-requires c κs = search needs
 
 add-next : tie.Need-add-next Inv-loop μ-loop
 add-next c = omega arith
 
-mul-a : tie.Need-mul-a Inv-loop μ-loop
-mul-a c = omega arith
+cast-places : tie.Need-cast-places Inv-loop μ-loop
+cast-places c = omega arith
 
-shared-slice-copy-out-a : tie.Need-shared-slice-copy-out-a Inv-loop μ-loop
-shared-slice-copy-out-a c = omega arith
+mul-places : tie.Need-mul-places Inv-loop μ-loop
+mul-places c = omega arith
 
-add-b : tie.Need-add-b Inv-loop μ-loop
-add-b c = omega arith
-
-mul-b : tie.Need-mul-b Inv-loop μ-loop
-mul-b c = omega arith
-
-shared-slice-copy-out-b : tie.Need-shared-slice-copy-out-b Inv-loop μ-loop
-shared-slice-copy-out-b c = omega arith
-
-mul-a-2 : tie.Need-mul-a-2 Inv-loop μ-loop
-mul-a-2 c = omega arith
-
-mul-a-3 : tie.Need-mul-a-3 Inv-loop μ-loop
-mul-a-3 c = omega arith
-
-element-set-from-a : tie.Need-element-set-from-a Inv-loop μ-loop
-element-set-from-a c = omega arith
-
-mul-b-2 : tie.Need-mul-b-2 Inv-loop μ-loop
-mul-b-2 c = omega arith
-
-add-b-2 : tie.Need-add-b-2 Inv-loop μ-loop
-add-b-2 c = omega arith
-
-mul-b-3 : tie.Need-mul-b-3 Inv-loop μ-loop
-mul-b-3 c = omega arith
-
-element-set-from-b : tie.Need-element-set-from-b Inv-loop μ-loop
-element-set-from-b c = omega arith
+element-write-places : tie.Need-element-write-places Inv-loop μ-loop
+element-write-places c = omega arith
 
 mul-fractions : tie.Need-mul-fractions Inv-loop μ-loop
 mul-fractions c = omega arith
@@ -101,36 +69,29 @@ loop-less c = omega arith
 
 loop-again : tie.Need-loop-again Inv-loop μ-loop
 loop-again c =
-    let b = c .before .before in
-    let p = b .before .before .before in
+    let p = c .before .before .before in
     let l = p .before .before .loop in
     let a = p .before .before .before .before .args in
-    let N = length (now (a .samples)) in
-    let x : toZ w16 (ofZ w16 (getD (now (a .samples)) (l .at) (pos 0))) ≡ getD (now (a .samples)) (l .at) (pos 0) = toZ-ofZ
-    (record { sfits = b .before .a .given }) in
-    let y : toZ w16 (ofZ w16 (getD (now (a .samples)) (l .at + 1) (pos 0))) ≡ getD (now (a .samples)) (l .at + 1) (pos 0) = toZ-ofZ
-    (record { sfits = b .b .given }) in
-    turn (a .rate) (record { remaining = N - (N - a .c .remaining); fraction = a .c .fraction }) (now (a .samples)) (l .pairs)
+    turn (a .rate) (record { remaining = a .size - (a .size - a .c .remaining); fraction = a .c .fraction }) (a .size) (l .places)
     (l .fractions) (a .room) (l .at) (l .fraction) (l .k) (l .inv)
-    (omega arith) (omega arith) _ _ (p .places .result) (c .at-least-0 .result) x y (p .places .ensures .0)
+    (omega arith) (omega arith) (p .whole-part .result) (c .at-least-0 .result) (p .whole-part .ensures .0)
     (c .at-least-0 .ensures ∙ ap (λ (w : Float). at-least-0 (sub binary64 (add binary64 (l .fraction) (a .rate)) w))
     (c .before .whole-u32 .ensures))
     (omega arith)
 
-sub-t16 : tie.Need-sub-t16 Inv-loop μ-loop
-sub-t16 c = omega arith
+sub-t14 : tie.Need-sub-t14 Inv-loop μ-loop
+sub-t14 c = omega arith
 
-cast-t32 : tie.Need-cast-t32 Inv-loop μ-loop
-cast-t32 c = omega arith
+cast-t24 : tie.Need-cast-t24 Inv-loop μ-loop
+cast-t24 c = omega arith
 
 returns : tie.Need-returns Inv-loop μ-loop
 returns c =
     let a = c .before .before .before .args in
     let l = c .before .loop in
-    let N = length (now (a .samples)) in
-    let e : N - (N - a .c .remaining) ≡ a .c .remaining = omega arith in
-    let i = subst (λ (n : ℕ). Loop (a .rate) (record { remaining = n; fraction = a .c .fraction }) (now (a .samples)) (l .pairs)
-    (l .fractions) (a .room) (l .at) (l .fraction) (l .k)) e (l .inv) in
+    let e : a .size - (a .size - a .c .remaining) ≡ a .c .remaining = omega arith in
+    let i = subst (λ (n : ℕ). Loop (a .rate) (record { remaining = n; fraction = a .c .fraction }) (a .size) (l .places) (l .fractions)
+    (a .room) (l .at) (l .fraction) (l .k)) e (l .inv) in
     (record { count-most = i .most; cursor-is = i .is; inside = i .inside }, i .walked)
 
 pub walk-any-spec : {M : Type 1} → statement M
@@ -143,20 +104,11 @@ walk-any-spec =
     cast-at
     sub-at
     loop-holds
-    places-requires
+    whole-part-requires
     add-next
-    mul-a
-    shared-slice-copy-out-a
-    add-b
-    mul-b
-    shared-slice-copy-out-b
-    mul-a-2
-    mul-a-3
-    element-set-from-a
-    mul-b-2
-    add-b-2
-    mul-b-3
-    element-set-from-b
+    cast-places
+    mul-places
+    element-write-places
     mul-fractions
     element-write-fractions
     whole-u32-requires
@@ -164,6 +116,6 @@ walk-any-spec =
     add-k
     loop-less
     loop-again
-    sub-t16
-    cast-t32
+    sub-t14
+    cast-t24
     returns)

@@ -1,16 +1,12 @@
 -- `steps::stretch::walk_steady` meets its contract: a turn is one step, by the laws of Steady and Walk. Assumes nothing.
 use mathlib.Core.Path.{_≡_, refl, sym, ap, _∙_, subst}
-use Prim.Native.Nat.{ℕ, _-_, _+_}
+use Prim.Native.Nat.{ℕ, _-_}
 use native.Mathlib.Omega.{arith}
-use lib.ListN.{length, getD}
 use lib.IntN.{pos}
 use mathlib.Core.Bool.{cond}
 use lib.Ieee.{Float, binary64, add, sub, lt, ofBits}
 use Rattle.numbers.specs.Held.{at-least-0}
 use denote.Ref.{now}
-use mir.Syntax.{w16}
-use mir.Val.{toZ, ofZ}
-use mir.Facts.{toZ-ofZ}
 use borrow.Author.Needs.{needs}
 use borrow.Author.Tests.{not-false}
 use Rattle.numbers.specs.Casts.{double}
@@ -23,12 +19,28 @@ use Rattle.steps.proofs.stretch.walk_steady.Statement.{statement}
 use Rattle.steps.proofs.stretch.walk_steady.Tie as tie
 
 abbrev Inv-loop : tie.InvT-loop
-Inv-loop samples rate room pairs₀ fractions₀ length last at₀ fraction₀ k₀ whole above pairs fractions at fraction k =
-    Loop rate (record { remaining = length - at₀; fraction = fraction₀ }) samples pairs fractions room at fraction k × Part fraction
+Inv-loop size rate room places₀ fractions₀ end last at₀ fraction₀ k₀ whole above places fractions at fraction k =
+    Loop rate (record { remaining = end - at₀; fraction = fraction₀ }) size places fractions room at fraction k × Part fraction
 
 abbrev μ-loop : tie.MeasureT-loop
-μ-loop samples rate room pairs₀ fractions₀ length last at₀ fraction₀ k₀ whole above pairs fractions at fraction k =
+μ-loop size rate room places₀ fractions₀ end last at₀ fraction₀ k₀ whole above places fractions at fraction k =
     room - k
+
+-- the step
+steps : (c : tie.Else1 Inv-loop μ-loop)
+    → Steps (c .before .before .before .loop .fraction) (c .before .before .before .before .before .before .args .rate)
+    (add binary64 (c .before .before .before .before .whole-u32 .result) (c .before .one-from .result))
+steps c =
+    let l = c .before .before .before in
+    let w = l .before in
+    let a = w .before .before .args in
+    let x = add binary64 (l .loop .fraction) (a .rate) in
+    stepped (l .loop .fraction) (a .rate) (w .whole-u32 .result) (c .before .one-from .result) (l .loop .inv .1)
+    (w .before .before .pre .1 .1 .1 .1 .1 .1) (w .whole-u32 .ensures)
+    (c .before .one-from .ensures ∙ ap (λ (y : Float). cond (lt x (add binary64 (w .whole-u32 .result) y)) +0 +1) one-64)
+    (ap (λ (y : Float). lt (sub binary64 x (add binary64 (w .whole-u32 .result) (c .before .one-from .result))) y) (sym one-64)
+    ∙ not-false (lt (sub binary64 x (add binary64 (w .whole-u32 .result) (c .before .one-from .result)))
+    (ofBits binary64 0x3ff0_0000_0000_0000)) (c .if1 .left))
 
 sub-last : tie.Need-sub-last Inv-loop μ-loop
 sub-last c = omega arith
@@ -45,30 +57,15 @@ whole-u32-requires c κs = search needs
 loop-holds : tie.Need-loop-holds Inv-loop μ-loop
 loop-holds c =
     let a = c .before .before .args in
-    let q = c .before .before .pre .1 .1 .1 .1 in (
-      begun (a .rate) _ (now (a .samples)) (now (a .pairs)) (now (a .fractions)) (a .room) (length (now (a .samples)) - a .c .remaining)
-          (a .c .fraction) (omega arith) (q .0) (q .1 .0) refl,
+    let q = c .before .before .pre .1 .1 .1 in (
+      begun (a .rate) _ (a .size) (now (a .places)) (now (a .fractions)) (a .room) (a .size - a .c .remaining) (a .c .fraction)
+          (omega arith)
+          (q .0) (q .1 .0) refl,
       q .1 .1 .0,
     )
 
 one-from-requires : tie.Need-one-from-requires Inv-loop μ-loop
 one-from-requires c κs = search needs
-
--- the step
-steps : (c : tie.Else1 Inv-loop μ-loop)
-    → Steps (c .before .before .before .loop .fraction) (c .before .before .before .before .before .before .args .rate)
-    (add binary64 (c .before .before .before .before .whole-u32 .result) (c .before .one-from .result))
-steps c =
-    let l = c .before .before .before in
-    let w = l .before in
-    let a = w .before .before .args in
-    let x = add binary64 (l .loop .fraction) (a .rate) in
-    stepped (l .loop .fraction) (a .rate) (w .whole-u32 .result) (c .before .one-from .result) (l .loop .inv .1)
-    (w .before .before .pre .1 .1 .1 .1 .1 .1 .1) (w .whole-u32 .ensures)
-    (c .before .one-from .ensures ∙ ap (λ (y : Float). cond (lt x (add binary64 (w .whole-u32 .result) y)) +0 +1) one-64)
-    (ap (λ (y : Float). lt (sub binary64 x (add binary64 (w .whole-u32 .result) (c .before .one-from .result))) y) (sym one-64)
-    ∙ not-false (lt (sub binary64 x (add binary64 (w .whole-u32 .result) (c .before .one-from .result)))
-    (ofBits binary64 0x3ff0_0000_0000_0000)) (c .if1 .left))
 
 counted-requires : tie.Need-counted-requires Inv-loop μ-loop
 counted-requires c κs = steps c .is ∙ ap (λ (n : ℕ). double (pos n)) (sym (steps c .count))
@@ -76,41 +73,14 @@ counted-requires c κs = steps c .is ∙ ap (λ (n : ℕ). double (pos n)) (sym 
 add-next : tie.Need-add-next Inv-loop μ-loop
 add-next c = omega arith
 
-mul-a : tie.Need-mul-a Inv-loop μ-loop
-mul-a c = omega arith
+cast-places : tie.Need-cast-places Inv-loop μ-loop
+cast-places c = omega arith
 
-shared-slice-copy-out-a : tie.Need-shared-slice-copy-out-a Inv-loop μ-loop
-shared-slice-copy-out-a c = omega arith
+mul-places : tie.Need-mul-places Inv-loop μ-loop
+mul-places c = omega arith
 
-add-b : tie.Need-add-b Inv-loop μ-loop
-add-b c = omega arith
-
-mul-b : tie.Need-mul-b Inv-loop μ-loop
-mul-b c = omega arith
-
-shared-slice-copy-out-b : tie.Need-shared-slice-copy-out-b Inv-loop μ-loop
-shared-slice-copy-out-b c = omega arith
-
-mul-a-2 : tie.Need-mul-a-2 Inv-loop μ-loop
-mul-a-2 c = omega arith
-
-mul-a-3 : tie.Need-mul-a-3 Inv-loop μ-loop
-mul-a-3 c = omega arith
-
-element-set-from-a : tie.Need-element-set-from-a Inv-loop μ-loop
-element-set-from-a c = omega arith
-
-mul-b-2 : tie.Need-mul-b-2 Inv-loop μ-loop
-mul-b-2 c = omega arith
-
-add-b-2 : tie.Need-add-b-2 Inv-loop μ-loop
-add-b-2 c = omega arith
-
-mul-b-3 : tie.Need-mul-b-3 Inv-loop μ-loop
-mul-b-3 c = omega arith
-
-element-set-from-b : tie.Need-element-set-from-b Inv-loop μ-loop
-element-set-from-b c = omega arith
+element-write-places : tie.Need-element-write-places Inv-loop μ-loop
+element-write-places c = omega arith
 
 mul-fractions : tie.Need-mul-fractions Inv-loop μ-loop
 mul-fractions c = omega arith
@@ -126,39 +96,32 @@ loop-less c = omega arith
 
 loop-again : tie.Need-loop-again Inv-loop μ-loop
 loop-again c =
-    let b = c in
-    let n = b .before .before .before in
+    let n = c .before in
     let s = steps (n .before) in
     let p = n .before .before .before .before in
     let l = p .loop in
-    let a = p .before .before .before .args in
-    let N = length (now (a .samples)) in
-    let x : toZ w16 (ofZ w16 (getD (now (a .samples)) (l .at) (pos 0))) ≡ getD (now (a .samples)) (l .at) (pos 0) = toZ-ofZ
-    (record { sfits = b .before .a .given }) in
-    let y : toZ w16 (ofZ w16 (getD (now (a .samples)) (l .at + 1) (pos 0))) ≡ getD (now (a .samples)) (l .at + 1) (pos 0) = toZ-ofZ
-    (record { sfits = b .b .given }) in (
-      turn (a .rate) (record { remaining = N - (N - a .c .remaining); fraction = a .c .fraction }) (now (a .samples)) (l .pairs)
+    let a = p .before .before .before .args in (
+      turn (a .rate) (record { remaining = a .size - (a .size - a .c .remaining); fraction = a .c .fraction }) (a .size) (l .places)
           (l .fractions) (a .room) (l .at) (l .fraction) (l .k) (l .inv .0)
-          (omega arith) (omega arith) _ _ (n .counted .result) _ x y (n .counted .ensures .0 ∙ s .count)
+          (omega arith) (omega arith) (n .counted .result) _ (n .counted .ensures .0 ∙ s .count)
           (sym (s .kept) ∙ ap (λ (w : Float). at-least-0 (sub binary64 (add binary64 (l .fraction) (a .rate)) w)) (s .is))
           (omega arith),
       s .part,
     )
 
-sub-t20 : tie.Need-sub-t20 Inv-loop μ-loop
-sub-t20 c = omega arith
+sub-t18 : tie.Need-sub-t18 Inv-loop μ-loop
+sub-t18 c = omega arith
 
-cast-t36 : tie.Need-cast-t36 Inv-loop μ-loop
-cast-t36 c = omega arith
+cast-t28 : tie.Need-cast-t28 Inv-loop μ-loop
+cast-t28 c = omega arith
 
 returns : tie.Need-returns Inv-loop μ-loop
 returns c =
     let a = c .before .before .before .before .args in
     let l = c .before .loop in
-    let N = length (now (a .samples)) in
-    let e : N - (N - a .c .remaining) ≡ a .c .remaining = omega arith in
-    let i = subst (λ (n : ℕ). Loop (a .rate) (record { remaining = n; fraction = a .c .fraction }) (now (a .samples)) (l .pairs)
-    (l .fractions) (a .room) (l .at) (l .fraction) (l .k)) e (l .inv .0) in
+    let e : a .size - (a .size - a .c .remaining) ≡ a .c .remaining = omega arith in
+    let i = subst (λ (n : ℕ). Loop (a .rate) (record { remaining = n; fraction = a .c .fraction }) (a .size) (l .places) (l .fractions)
+    (a .room) (l .at) (l .fraction) (l .k)) e (l .inv .0) in
     (record { count-most = i .most; cursor-is = i .is; inside = i .inside }, i .walked)
 
 pub walk-steady-spec : {M : Type 1} → statement M
@@ -175,23 +138,14 @@ walk-steady-spec =
     one-from-requires
     counted-requires
     add-next
-    mul-a
-    shared-slice-copy-out-a
-    add-b
-    mul-b
-    shared-slice-copy-out-b
-    mul-a-2
-    mul-a-3
-    element-set-from-a
-    mul-b-2
-    add-b-2
-    mul-b-3
-    element-set-from-b
+    cast-places
+    mul-places
+    element-write-places
     mul-fractions
     element-write-fractions
     add-k
     loop-less
     loop-again
-    sub-t20
-    cast-t36
+    sub-t18
+    cast-t28
     returns)

@@ -1,4 +1,4 @@
--- `steps::stretch::places` meets its contract. Assumes nothing.
+-- `steps::stretch::whole_part` meets its contract. Assumes nothing.
 use mathlib.Core.Path.{_≡_, sym, ap, _∙_}
 use Prim.Native.Nat.{ℕ}
 use lib.IntN.{pos}
@@ -7,8 +7,8 @@ use lib.Ieee.Casts.{toUnsigned-lt}
 use borrow.Author.Needs.{needs}
 use Rattle.numbers.specs.Casts.{cast-u32, double}
 use Rattle.steps.proofs.Steady.{whole-back}
-use Rattle.steps.proofs.stretch.places.Statement.{statement}
-use Rattle.steps.proofs.stretch.places.Tie as tie
+use Rattle.steps.proofs.stretch.whole_part.Statement.{statement}
+use Rattle.steps.proofs.stretch.whole_part.Tie as tie
 
 whole-u32-requires : tie.Need-whole-u32-requires
 whole-u32-requires c κs = search needs
@@ -24,5 +24,5 @@ counted-requires c κs = c .whole-u32 .ensures ∙ ap (λ (k : ℕ). double (pos
 returns : tie.Need-returns
 returns c = (c .counted .ensures .0 ∙ same (c .before), c .counted .ensures .1)
 
-pub places-spec : {M : Type 1} → statement M
-places-spec = tie.close (tie.spec whole-u32-requires counted-requires returns)
+pub whole-part-spec : {M : Type 1} → statement M
+whole-part-spec = tie.close (tie.spec whole-u32-requires counted-requires returns)
