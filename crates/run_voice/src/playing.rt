@@ -5,6 +5,15 @@ use crate::write_answer;
 ghost use Prim.Native.Nat.{_*_, _≤_};
 ghost use lib.ListN.{length};
 
+fn write_lane(lane: &[i16]) -> bool
+    requires { ⌜ length (now lane) ≤ 2048 ⌝ }
+{
+    let mut bytes = [0u8; 4096];
+    replaying::put_halves(lane, &mut bytes, 0);
+    let end = lane.len() * 2;
+    io::write_all(1, &bytes[0..end])
+}
+
 // The last of it: plays the record over the window and the lane.
 fn played(window: &[u8], base: u32, lane: &mut [i16]) -> bool
     requires { ⌜ length (now lane) ≤ 2048 ⌝ }
@@ -14,7 +23,7 @@ fn played(window: &[u8], base: u32, lane: &mut [i16]) -> bool
         return false;
     }
     let number = voice_jobs::playing::play(&mut record, window, base, lane);
-    write_answer(number, &record) && replaying::write_samples(lane)
+    write_answer(number, &record) && write_lane(lane)
 }
 
 // Plays over the lane that the bytes hold.
