@@ -120,8 +120,8 @@ pub fn fetch_sides(
     while i < count {
         let place = places[i] as usize;
         let a = sample_in(lane, bytes, e, place);
-        let b = sample_in(lane, bytes, e, place + 1);
         put(here, i, a);
+        let b = sample_in(lane, bytes, e, place + 1);
         put(next, i, b);
         i += 1;
     }

@@ -43,24 +43,9 @@ sample-in-requires c κs =
     let w = s .pre .1 .0 (c .before .before .loop .i) (c .before .loop-test .taken) in
     (s .pre .0, omega (arith, w))
 
-add-sample-in : tie.Need-add-sample-in Inv-loop μ-loop
-unfolding Within
-add-sample-in c =
-    let x = c .before in
-    let w = x .before .before .before .before .pre .1 .0 (x .before .before .loop .i) (x .before .loop-test .taken) in
-    record { fits = omega (arith, w) }
-
-sample-in-requires-2 : tie.Need-sample-in-requires-2 Inv-loop μ-loop
-unfolding Within
-sample-in-requires-2 c κs =
-    let x = c .before in
-    let s = x .before .before .before .before in
-    let w = s .pre .1 .0 (x .before .before .loop .i) (x .before .loop-test .taken) in
-    (s .pre .0, omega (arith, w))
-
 put-requires : tie.Need-put-requires Inv-loop μ-loop
 put-requires c κs =
-    let p = c .before .before .before in
+    let p = c .before .before in
     let l = p .before .before in
     let s = l .before .before in
     let a = s .args in
@@ -68,6 +53,21 @@ put-requires c κs =
       omega (arith, s .pre .1 .1 .0, p .before .loop-test .taken),
       stored-long samples 0 (now (a .here)) (l .loop .i) (l .loop .here) (l .loop .inv .1) (s .pre .1 .1 .1 .0),
     )
+
+add-sample-in : tie.Need-add-sample-in Inv-loop μ-loop
+unfolding Within
+add-sample-in c =
+    let x = c .before .before .before in
+    let w = x .before .before .before .before .pre .1 .0 (x .before .before .loop .i) (x .before .loop-test .taken) in
+    record { fits = omega (arith, w) }
+
+sample-in-requires-2 : tie.Need-sample-in-requires-2 Inv-loop μ-loop
+unfolding Within
+sample-in-requires-2 c κs =
+    let x = c .before .before .before in
+    let s = x .before .before .before .before in
+    let w = s .pre .1 .0 (x .before .before .loop .i) (x .before .loop-test .taken) in
+    (s .pre .0, omega (arith, w))
 
 put-requires-2 : tie.Need-put-requires-2 Inv-loop μ-loop
 put-requires-2 c κs =
@@ -88,20 +88,18 @@ loop-less c = omega arith
 
 loop-again : tie.Need-loop-again Inv-loop μ-loop
 loop-again c =
-    let p = c .before .before in
-    let y = p .before .before in
-    let x = y .before in
+    let y = c .before .before in
+    let p = y .before in
+    let x = p .before .before in
     let l = x .before .before .before in
     let a = l .before .before .args in
     let samples = hereAt (now (a .lane)) (now (a .bytes)) (a .e) (now (a .places)) in
     let nexts = nextAt (now (a .lane)) (now (a .bytes)) (a .e) (now (a .places)) in (
       omega (arith, x .before .before .loop-test .taken),
       stored-turn samples 0 (now (a .here)) (l .loop .i) (l .loop .here) _ (x .sample-in .result) (l .loop .i) (omega arith)
-          (l .loop .inv .1)
-          (x .sample-in .ensures) (p .put .ensures),
+          (l .loop .inv .1) (x .sample-in .ensures) (p .put .ensures),
       stored-turn nexts 0 (now (a .next)) (l .loop .i) (l .loop .next) _ (y .sample-in2 .result) (l .loop .i) (omega arith)
-          (l .loop .inv .2)
-          (y .sample-in2 .ensures) (c .put2 .ensures),
+          (l .loop .inv .2) (y .sample-in2 .ensures) (c .put2 .ensures),
     )
 
 returns : tie.Need-returns Inv-loop μ-loop
@@ -126,9 +124,9 @@ fetch-sides-spec =
     element-copy-out-place
     cast-place
     sample-in-requires
+    put-requires
     add-sample-in
     sample-in-requires-2
-    put-requires
     put-requires-2
     add-i
     loop-less
