@@ -1,14 +1,17 @@
 -- What is stored from places and fractions is what a track gives: a mono sample is its left value twice, what was fetched is found again,
 -- and a walk notes where the cursors are. Assumes nothing.
-use mathlib.Core.Path.{_≡_, refl, sym, ap, _∙_}
-use mathlib.Core.Bool.{Bool, true, false, _||_, not}
+use mathlib.Core.Path.{_≡_, refl, sym, ap, _∙_, subst}
+use mathlib.Core.Bool.{Bool, true, false, _&&_, _||_, not}
+use mathlib.Core.Logic.{⊎-elim}
 use mathlib.Core.List.{List}
-use Prim.Native.Nat.{ℕ, _+_, _-_, _≤_, _<_}
+use Prim.Native.Nat.{ℕ, zero, suc, _+_, _-_, _≤_, _<_}
+use native.Mathlib.Numerals.{add-one}
 use native.Mathlib.Omega.{arith}
 use lib.IntN.{ℤ}
 use lib.ListN.{length, getD}
 use lib.Ieee.{Float, nan, eq}
-use Rattle.lists.proofs.Bools.{cond-yes, clash}
+use Rattle.lists.proofs.Walk.{below-or}
+use Rattle.lists.proofs.Bools.{cond-yes, clash, and-both, and-no, and-yes}
 use Rattle.numbers.specs.Literals.{+0, +1}
 use Rattle.voice.specs.Long.{isAdpcm}
 use Rattle.voice.specs.declared.record.Entry.{Entry}
@@ -22,7 +25,7 @@ use Rattle.steps.proofs.Whole.{after-remaining, after-zero}
 use Rattle.track.specs.declared.Track.{Track}
 use Rattle.stretches.specs.Source.{sampleBy, sampleIn, isMono, soundBy}
 use Rattle.stretches.specs.Stored.{stored, storedAt, Within, blended, runAt, hereAt, nextAt, pairAt, blendedAt, pairBlend, sidesBlend}
-use Rattle.stretches.specs.Stored.{notedAt, soundAfter}
+use Rattle.stretches.specs.Stored.{notedAt, soundAfter, allZero}
 use Rattle.stretches.proofs.Storing.{stored-same, found}
 
 -- ---- both sides alike
@@ -67,13 +70,54 @@ module _ (lane : List ℤ) (bytes : List ℕ) (e : Entry) (places : List ℕ) (f
 -- ---- by whether samples are taken as they are
 
 module _ (lane : List ℤ) (bytes : List ℕ) (t : Track) (places : List ℕ) (fractions : List Float) (i : ℕ) where
-  pub noted-plain : t .plain ≡ true → hereAt lane bytes (t .playing) places i ≡ notedAt lane bytes t places fractions i
+  pub noted-plain : (t .plain || eq (getD fractions i nan) +0) ≡ true
+      → hereAt lane bytes (t .playing) places i ≡ notedAt lane bytes t places fractions i
   unfolding soundBy
-  noted-plain h = sym (ap (λ (b : Bool). soundBy (sampleIn lane bytes (t .playing)) b (getD places i 0) (getD fractions i nan)) h)
+  noted-plain h = sym (cond-yes _ _ h)
 
   pub noted-blended : t .plain ≡ false → blendedAt lane bytes (t .playing) places fractions i ≡ notedAt lane bytes t places fractions i
   unfolding soundBy blended
   noted-blended h = sym (ap (λ (b : Bool). soundBy (sampleIn lane bytes (t .playing)) b (getD places i 0) (getD fractions i nan)) h)
+
+-- each of the first fractions is 0, or one is not
+zero-each : (fractions : List Float) (n : ℕ) → allZero fractions n ≡ true → (i : ℕ) → i < n → eq (getD fractions i nan) +0 ≡ true
+unfolding allZero
+zero-each fractions zero a i h = absurd (omega arith)
+zero-each fractions (suc n) a i h =
+    let b = and-both (allZero fractions n) (eq (getD fractions n nan) +0) a in
+    ⊎-elim (λ l. zero-each fractions n (b .0) i l) (λ l. last l (b .1)) (below-or i n)
+  where
+    last : n ≤ i → eq (getD fractions n nan) +0 ≡ true → eq (getD fractions i nan) +0 ≡ true
+    last l e =
+        let same : n ≡ i = omega arith in
+        subst (λ (k : ℕ). eq (getD fractions k nan) +0 ≡ true) same e
+
+pub zero-not : (fractions : List Float) (i d : ℕ) → eq (getD fractions i nan) +0 ≡ false → allZero fractions (suc i + d) ≡ false
+unfolding allZero
+zero-not fractions i zero e =
+    let none : suc i ≡ suc i + 0 = omega arith in
+    subst (λ (k : ℕ). allZero fractions k ≡ false) none (and-not (allZero fractions i) e)
+  where
+    and-not : (x : Bool) {y : Bool} → y ≡ false → (x && y) ≡ false
+    and-not true e = e
+    and-not false e = refl
+zero-not fractions i (suc d) e =
+    let next : suc (suc i + d) ≡ suc i + suc d = omega arith in
+    subst (λ (k : ℕ). allZero fractions k ≡ false) next (and-no _ (zero-not fractions i d e))
+
+pub zero-none : (fractions : List Float) → allZero fractions 0 ≡ true
+unfolding allZero
+zero-none fractions = refl
+
+pub zero-next : (fractions : List Float) (i : ℕ) → allZero fractions i ≡ true → eq (getD fractions i nan) +0 ≡ true
+    → allZero fractions (i + 1) ≡ true
+unfolding allZero
+zero-next fractions i a e = ap (allZero fractions) (add-one i) ∙ and-yes _ a ∙ e
+
+pub plain-each : (plain : Bool) (fractions : List Float) (n : ℕ) → (plain || allZero fractions n) ≡ true
+    → (i : ℕ) → i < n → (plain || eq (getD fractions i nan) +0) ≡ true
+plain-each true fractions n a i h = refl
+plain-each false fractions n a i h = zero-each fractions n a i h
 
 -- ---- a walk
 

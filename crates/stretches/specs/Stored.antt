@@ -1,6 +1,6 @@
 -- Samples stored one after the other in a frame, and what is stored. Only the contracts of quick functions cite these. Assumes nothing:
 -- these are definitions.
-use mathlib.Core.Bool.{cond}
+use mathlib.Core.Bool.{Bool, true, _&&_, cond}
 use mathlib.Core.List.{List}
 use Prim.Native.Nat.{ℕ, zero, suc, _+_, _*_, _<_}
 use lib.IntN.{ℤ, pos}
@@ -33,6 +33,11 @@ Within places n size = (i : ℕ) → i < n → getD places i 0 + 1 < size
 -- the sample between two, which at a fraction of 0 is the first
 unfoldable pub blended : Sample → Sample → Float → Sample
 blended a b fraction = cond (eq fraction +0) a (betweenSamples a b fraction)
+
+-- each of the first n fractions is 0
+unfoldable pub allZero : List Float → ℕ → Bool
+allZero fractions zero = true
+allZero fractions (suc n) = allZero fractions n && eq (getD fractions n nan) +0
 
 -- ---- what is stored at place i
 

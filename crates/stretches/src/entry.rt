@@ -16,7 +16,7 @@ use track::Track;
 use voice::malformed::is_adpcm;
 use voice::record::Entry;
 ghost use mathlib.Core.Path.{_≡_};
-ghost use mathlib.Core.Bool.{true};
+ghost use mathlib.Core.Bool.{true, _||_};
 ghost use Prim.Native.Nat.{_-_, _+_, _≤_, _<_};
 ghost use lib.ListN.{length};
 ghost use lib.Ieee.{eq};
@@ -25,7 +25,7 @@ ghost use Rattle.numbers.specs.Sizes.{«FRAME_SAMPLES», FRAME};
 ghost use Rattle.steps.specs.Stretch.{Stretched};
 ghost use Rattle.track.specs.Laid.{laid, Onward};
 ghost use Rattle.stretches.specs.Source.{Holds, isMono, isHeld, isReady};
-ghost use Rattle.stretches.specs.Stored.{stored, Within, blendedAt, notedAt, soundAfter};
+ghost use Rattle.stretches.specs.Stored.{stored, Within, allZero, blendedAt, notedAt, soundAfter};
 
 fn is_mono(e: Entry) -> bool
     ensures { λ r. ⌜ r ≡ isMono e ⌝ }
@@ -87,6 +87,34 @@ fn play_stereo(
     blend_sides(&here, &next, fractions, count, frame, output);
 }
 
+// Whether each of the first fractions is 0, as at a whole rate.
+fn all_zero(fractions: &[f64; FRAME_SAMPLES], count: usize) -> bool
+    requires { ⌜ count ≤ «FRAME_SAMPLES» ⌝ }
+    ensures { λ r. ⌜ r ≡ allZero (now (fractions .entry)) count ⌝ }
+{
+    let mut i = 0;
+    while i < count {
+        let f = fractions[i];
+        if f == 0.0 {
+            i += 1;
+        } else {
+            return false;
+        }
+    }
+    true
+}
+
+// Whether all the samples are those of the places as they are.
+fn are_plain(t: Track, fractions: &[f64; FRAME_SAMPLES], count: usize) -> bool
+    requires { ⌜ count ≤ «FRAME_SAMPLES» ⌝ }
+    ensures { λ r. ⌜ r ≡ (t .plain || allZero (now (fractions .entry)) count) ⌝ }
+{
+    if t.plain {
+        return true;
+    }
+    all_zero(fractions, count)
+}
+
 // What the places and fractions give.
 fn play_noted(
     lane: &[i16],
@@ -107,7 +135,7 @@ fn play_noted(
         (now (frame .entry)) ⌝ }
 {
     let e = t.playing;
-    if t.plain {
+    if are_plain(t, fractions, count) {
         fetch(lane, bytes, e, places, count, frame, output);
         return;
     }
