@@ -1,4 +1,5 @@
--- A dequeue keeps a record well-formed, its queue's places, and the lane as long as it was, by its steps one after the other. Assumes nothing.
+-- A dequeue keeps a record well-formed, its queue's places, and the lane as long as it was, by its steps one after the other. Assumes
+-- nothing.
 use mathlib.Core.Path.{_≡_, refl, sym, ap, _∙_, subst}
 use mathlib.Core.Bool.{Bool, true, false, _&&_, cond}
 use mathlib.Core.List.{List, _++_}

@@ -1,7 +1,8 @@
-// Of module 5, the start of the next entry. `dequeue` takes a record, the window with its base, and the voice's lane. It looks for the first
-// entry of smallest id; where none is queued it gives the record back and says so. Otherwise the entry leaves the queue unless it loops, the
-// record's counters and history are set for it, and ADPCM is decoded into the lane then and there. Nothing is refused: `dequeue` asks that no
-// more is queued than a record has room for and that each queued ADPCM entry fits the lane, which a record that is not malformed has.
+// Of module 5, the start of the next entry. `dequeue` takes a record, the window with its base, and the voice's lane. It looks for the
+// first entry of smallest id; where none is queued it gives the record back and says so. Otherwise the entry leaves the queue unless it
+// loops, the record's counters and history are set for it, and ADPCM is decoded into the lane then and there. Nothing is refused:
+// `dequeue` asks that no more is queued than a record has room for and that each queued ADPCM entry fits the lane, which a record that is
+// not malformed has.
 ghost use mathlib.Core.Bool.{false};
 ghost use mathlib.Core.Path.{_≡_};
 ghost use Prim.Native.Nat.{_*_, _≤_, _<_};

@@ -1,5 +1,5 @@
--- A frame holds the samples that were produced, and 0 past them: storing one more at its place is the frame of one sample more. By taking the
--- frame apart at that place. Assumes nothing.
+-- A frame holds the samples that were produced, and 0 past them: storing one more at its place is the frame of one sample more. By taking
+-- the frame apart at that place. Assumes nothing.
 use mathlib.Core.Path.{_≡_, refl, sym, ap, _∙_}
 use mathlib.Core.List.{List, [], _∷_, _++_, flatMap, append-assoc, append-nil}
 use Prim.Native.Nat.{ℕ, zero, suc, _+_, _-_, _*_, _≤_, _<_}

@@ -1,4 +1,5 @@
--- A frame goes on a sample at a time: by what `next` does, and that a turn of an entry is so many samples of the definition. Assumes nothing.
+-- A frame goes on a sample at a time: by what `next` does, and that a turn of an entry is so many samples of the definition. Assumes
+-- nothing.
 use mathlib.Core.Path.{_≡_, refl, sym, ap, _∙_, subst}
 use mathlib.Core.Bool.{true, false, cond}
 use mathlib.Core.List.{List, [], _∷_, _++_, append-assoc, append-nil}

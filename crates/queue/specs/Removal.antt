@@ -1,5 +1,5 @@
--- An entry that leaves a queue: "Entries keep their order". Assumes nothing: these are definitions, and a statement that proofs/Removal.antt
--- proves.
+-- An entry that leaves a queue: "Entries keep their order". Assumes nothing: these are definitions, and a statement that
+-- proofs/Removal.antt proves.
 use mathlib.Core.Path.{_≡_}
 use mathlib.Core.List.{List, [], _∷_, _++_}
 use Prim.Native.Nat.{ℕ, suc, _-_, _≤_, _<_}
@@ -18,7 +18,8 @@ without place queue = take place queue ++ (drop (suc place) queue ++ (blankEntry
 unfoldable pub removed : ℕ → Voice → Voice
 removed place v = set-voice-queued (v .queued - 1) (set-voice-queue (without place (v .queue)) v)
 
--- Of all records with places for what is queued: the entries after a removal are those before the place and those behind it, in their order.
+-- Of all records with places for what is queued: the entries after a removal are those before the place and those behind it, in their
+-- order.
 abbrev pub KeepsOrder : Type 0
 KeepsOrder =
     (v : Voice) (place : ℕ)

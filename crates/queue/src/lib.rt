@@ -1,6 +1,6 @@
-// Of module 5, the queue of a voice: its search, what leaves it, and the mark of an entry that was played. `search` takes a record and answers
-// where the first entry of smallest id stands, or that none is queued. `remove` takes the entry at a place out; the others keep their order.
-// Nothing is refused: both ask that no more entries are queued than the record has room for. No memory is read or written.
+// Of module 5, the queue of a voice: its search, what leaves it, and the mark of an entry that was played. `search` takes a record and
+// answers where the first entry of smallest id stands, or that none is queued. `remove` takes the entry at a place out; the others keep
+// their order. Nothing is refused: both ask that no more entries are queued than the record has room for. No memory is read or written.
 ghost use mathlib.Core.Bool.{true};
 ghost use mathlib.Core.Path.{_≡_};
 ghost use Prim.Native.Nat.{_≤_, _<_};

@@ -1,5 +1,5 @@
--- One sample of an entry, left and right: "PCM is read as it plays, sample by sample, addresses modulo 2^32, absent samples 0", and ADPCM from
--- the lane. Assumes nothing: these are definitions.
+-- One sample of an entry, left and right: "PCM is read as it plays, sample by sample, addresses modulo 2^32, absent samples 0", and ADPCM
+-- from the lane. Assumes nothing: these are definitions.
 use mathlib.Core.Bool.{Bool, cond}
 use mathlib.Core.List.{List}
 use Prim.Native.Nat.{ℕ, _+_, _*_, _%_, _^_}

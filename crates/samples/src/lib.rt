@@ -1,7 +1,7 @@
-// Of module 5, one sample of an entry. A PCM sample is read out of the window as it plays: `pcm8_mono` and its like take the window, its base
-// and the sample's address, and give both channels, of a mono sample the same twice. One look-up serves both channels, and where a byte is
-// absent both are 0. An ADPCM sample comes from the lane, where it was decoded: `decoded_at`. `sample_at` is the sample at an index of an
-// entry of any kind. Nothing is refused; the lane is asked to hold what was decoded.
+// Of module 5, one sample of an entry. A PCM sample is read out of the window as it plays: `pcm8_mono` and its like take the window, its
+// base and the sample's address, and give both channels, of a mono sample the same twice. One look-up serves both channels, and where a
+// byte is absent both are 0. An ADPCM sample comes from the lane, where it was decoded: `decoded_at`. `sample_at` is the sample at an
+// index of an entry of any kind. Nothing is refused; the lane is asked to hold what was decoded.
 ghost use mathlib.Core.Path.{_≡_};
 ghost use Prim.Native.Nat.{_+_, _*_, _%_, _^_, _≤_};
 ghost use lib.ListN.{length};

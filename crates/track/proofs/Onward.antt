@@ -1,5 +1,5 @@
--- One stretch of an entry after another is one stretch, and a single sample is one: the cursors, the frame, and that something remains on the
--- way. By `after-add` of steps. Assumes nothing.
+-- One stretch of an entry after another is one stretch, and a single sample is one: the cursors, the frame, and that something remains on
+-- the way. By `after-add` of steps. Assumes nothing.
 use mathlib.Core.Path.{_≡_, refl, sym, ap, _∙_, subst}
 use mathlib.Core.Logic.{_⊎_, inl, ⊎-elim}
 use mathlib.Core.List.{List}

@@ -1,7 +1,7 @@
 // Of module 5, one produced sample. A `Track` is what is fixed while an entry plays, a `Cursor` where playing is in it: how many samples
 // remain, and the fraction. `sound` gives the sample that a voice produces there: the entry's own, or, with interpolation and a fraction
-// other than 0, the one between it and the next. Nothing is refused; what remains must be no more than the record's length, and the lane must
-// hold what was decoded.
+// other than 0, the one between it and the next. Nothing is refused; what remains must be no more than the record's length, and the lane
+// must hold what was decoded.
 ghost use mathlib.Core.Path.{_≡_};
 ghost use Prim.Native.Nat.{_≤_, _<_, _-_, min};
 ghost use lib.ListN.{length};

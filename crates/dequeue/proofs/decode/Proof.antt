@@ -1,4 +1,5 @@
--- `dequeue::decode` meets its contract: the decoder does not refuse, since its bytes are whole frames and the lane has room. Assumes nothing.
+-- `dequeue::decode` meets its contract: the decoder does not refuse, since its bytes are whole frames and the lane has room. Assumes
+-- nothing.
 use denote.Ref.{now}
 use lib.ListN.{length}
 use Rattle.lists.proofs.Bools.{cond-no}
