@@ -31,7 +31,7 @@ pub extern "C" fn yinzhor_write_dsp32(bytes: &mut [u8], at: usize, value: u32)
 pub extern "C" fn yinzhor_layout_number(first: usize, second: usize, offsets: &[u8]) -> u8
     requires { ⌜ length (now offsets) ≡ 28 ⌝ }
 {
-    layout::layout_number(first, second, mixer_jobs::layout_of(offsets, 0))
+    layout::layout_number(first, second, mixer_forms::layout_of(offsets, 0))
 }
 
 #[no_mangle]
@@ -96,7 +96,7 @@ pub extern "C" fn yinzhor_list_read(
     listing::list_read(buffer, got, output)
 }
 
-// The layout's offsets are words, the state has mixer_jobs' form, and the frame's samples are halves.
+// The layout's offsets are words, the state has mixer_forms' form, and the frame's samples are halves.
 #[no_mangle]
 pub extern "C" fn yinzhor_mixer_tick(
     first: &mut [u8],
@@ -111,12 +111,12 @@ pub extern "C" fn yinzhor_mixer_tick(
     requires { ⌜ length (now state) ≡ 16 ⌝ }
     requires { ⌜ length (now frame) ≡ 640 ⌝ }
 {
-    let given = mixer_jobs::state_of(state);
-    let layout = mixer_jobs::layout_of(offsets, 0);
+    let given = mixer_forms::state_of(state);
+    let layout = mixer_forms::layout_of(offsets, 0);
     let mixed = mixer::tick::tick(given, layout, read, first, second, mixes);
     let samples = mixed.frame;
-    mixer_jobs::put_frame(&samples, frame, 0);
+    mixer_forms::put_frame(&samples, frame, 0);
     let after = mixed.mixer;
-    mixer_jobs::put_state(after, state, 0);
+    mixer_forms::put_state(after, state, 0);
     mixed.number
 }

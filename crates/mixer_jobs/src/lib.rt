@@ -1,6 +1,6 @@
 // Test only: a call of the mixer, all that it is lent in bytes. `answer` takes a job's part and puts its answer; a part that has not the
 // form is answered by nothing. Numbers are little-endian, words have 32 bits. The part has 596 bytes:
-//   0  the state, 16 bytes: the volumes' bits as words; aux 0, aux 1 and mono, 1 for on; a zero
+//   0  the state, 16 bytes, as mixer_forms has it
 //  16  the layout's seven offsets as words, in document 01's order
 //  44  words: how long regions 0 and 1 are, 65,537 at most; how many values the mixes have, 1,921 at most; the region number
 //  60  the byte that fills region 0, the one that fills region 1, two zeros
@@ -13,11 +13,12 @@
 //   4  the state
 //  20  the frame
 // 660  a sum over every byte of region 0, and one of region 1, as words
-use layout::Layout;
 use little::read32;
 use mixer::tick::Mixed;
-use mixer_state::Mixer;
-use mixer_state::Output;
+use mixer_forms::layout_of;
+use mixer_forms::put_frame;
+use mixer_forms::put_state;
+use mixer_forms::state_of;
 ghost use mathlib.Core.Path.{_≡_};
 ghost use Prim.Native.Nat.{_+_, _≤_};
 ghost use lib.ListN.{length};
@@ -35,56 +36,6 @@ const CONFIGURATION: usize = 44;
 const INTERMEDIATE: usize = 5120;
 
 const WORDS: usize = 61;
-
-pub fn state_of(bytes: &[u8]) -> Mixer
-    requires { ⌜ 16 ≤ length (now bytes) ⌝ }
-{
-    let output = if bytes[14] != 0 {
-        Output::Mono
-    } else {
-        Output::Stereo
-    };
-    Mixer {
-        volume: [
-            replaying::single(read32(bytes, 0)),
-            replaying::single(read32(bytes, 4)),
-            replaying::single(read32(bytes, 8)),
-        ],
-        aux: [bytes[12] != 0, bytes[13] != 0],
-        output,
-    }
-}
-
-pub fn put_state(state: Mixer, bytes: &mut [u8], at: usize)
-    requires { ⌜ at + 16 ≤ length (now bytes) ⌝ }
-{
-    let volume = state.volume;
-    let aux = state.aux;
-    let output = state.output;
-    let mono = match output {
-        Output::Mono => 1,
-        Output::Stereo => 0,
-    };
-    let switches = [aux[0] as u8, aux[1] as u8, mono, 0];
-    little::write32(bytes, at, replaying::bits32(volume[0]));
-    little::write32(bytes, at + 4, replaying::bits32(volume[1]));
-    little::write32(bytes, at + 8, replaying::bits32(volume[2]));
-    little::put(bytes, at + 12, &switches);
-}
-
-pub fn layout_of(bytes: &[u8], at: usize) -> Layout
-    requires { ⌜ at + 28 ≤ length (now bytes) ⌝ }
-{
-    Layout {
-        configurations: read32(bytes, at),
-        statuses: read32(bytes, at + 4),
-        coefficients: read32(bytes, at + 8),
-        frame_counter: read32(bytes, at + 12),
-        mixer_configuration: read32(bytes, at + 16),
-        final_samples: read32(bytes, at + 20),
-        intermediate_samples: read32(bytes, at + 24),
-    }
-}
 
 fn mixes_of(part: &[u8]) -> [i32; MOST_VALUES]
     requires { ⌜ length (now part) ≡ 596 ⌝ }
@@ -150,12 +101,6 @@ fn call(part: &[u8], many: usize, first: &mut [u8], second: &mut [u8]) -> Mixed
         second,
         &values[0..many],
     )
-}
-
-pub fn put_frame(frame: &[i16; 320], bytes: &mut [u8], at: usize)
-    requires { ⌜ at + 640 ≤ length (now bytes) ⌝ }
-{
-    replaying::put_halves(frame, bytes, at);
 }
 
 fn put_mixed(mixed: Mixed, sums: [u32; 2], out: &mut [u8])

@@ -1,17 +1,8 @@
 // Answers jobs on a voice for the oracle. Standard input holds jobs, one after the other. A job begins with a word, 32 bits, that says its
 // kind: 0 is a configuration, 1 is filters, 2 is a frame played. What follows, and the answer that goes to standard output, is told at the
-// head of the file that answers it: `configuration`, `filtering`, `playing`. Every number is little-endian, and a record stands in bytes as
+// head of voice_answers' file of that kind: configuration, filtering, playing. Every number is little-endian, and a record stands in bytes as
 // record_reader has them. Another kind, a number that is out of bounds, and a job that is cut off end the program. stdin and stdout are a
 // fixed list that oracle/record wrote.
-mod configuration;
-mod filtering;
-mod playing;
-
-// How every answer begins: a number and three zeros, and the record.
-fn write_answer(number: u8, record: &[u8; 2456]) -> bool {
-    let start = [number, 0, 0, 0];
-    io::write_all(1, &start) && io::write_all(1, record)
-}
 
 // Answers one job, and says whether to go on.
 fn answer() -> bool {
@@ -20,9 +11,9 @@ fn answer() -> bool {
         return false;
     }
     match little::read32(&kind, 0) {
-        0 => configuration::answer(),
-        1 => filtering::answer(),
-        2 => playing::answer(),
+        0 => voice_answers::configuration::answer(),
+        1 => voice_answers::filtering::answer(),
+        2 => voice_answers::playing::answer(),
         _ => false,
     }
 }
