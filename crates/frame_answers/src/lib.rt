@@ -1,7 +1,6 @@
-// A frame played. The job: the window's base and its length, 32 bits each, the length at most 65,536, and its bytes; the lane's length, 32
-// bits, at most 2,048, and its samples, signed and 16 bits each; a record. The answer: the number and three zeros, the record after the
-// frame, and the lane. A malformed record is answered 7, all else as it was.
-use crate::write_answer;
+// Test only: what the program run_voice answers to a frame to be played. The job: the window's base and its length, 32 bits each, the
+// length at most 65,536, and its bytes; the lane's length, 32 bits, at most 2,048, and its samples, signed and 16 bits each; a record. The
+// answer: the number and three zeros, the record after the frame, and the lane. A malformed record is answered 7, all else as it was.
 ghost use Prim.Native.Nat.{_*_, _≤_};
 ghost use lib.ListN.{length};
 
@@ -23,7 +22,7 @@ fn played(window: &[u8], base: u32, lane: &mut [i16]) -> bool
         return false;
     }
     let number = voice_jobs::playing::play(&mut record, window, base, lane);
-    write_answer(number, &record) && write_lane(lane)
+    voice_answers::write_answer(number, &record) && write_lane(lane)
 }
 
 // Plays over the lane that the bytes hold.
