@@ -56,7 +56,8 @@ module _ (L : ℕ) (v : Voice) (w : WellFormed L v) (long : length (v .queue) �
             ∙ ap (tooLong L) (getD-set-same (v .queue) place (markPlayed (entryAt place v)) blankEntry inside)
             ∙ mark-long L (entryAt place v)
             ∙ entries-at L v (w .entries) place here
-        | no e ↦ ap (tooLong L) (getD-set-other (v .queue) place k (markPlayed (entryAt place v)) blankEntry e) ∙ entries-at L v (w .entries) k h
+        | no e ↦ ap (tooLong L) (getD-set-other (v .queue) place k (markPlayed (entryAt place v)) blankEntry e)
+            ∙ entries-at L v (w .entries) k h
       ]
 
   removed-entries : (k : ℕ) → k < removed place v .queued → tooLong L (getD (removed place v .queue) k blankEntry) ≡ false
@@ -132,7 +133,8 @@ module _ (L : ℕ) (v : Voice) (w : WellFormed L v) (long : length (v .queue) �
         remaining = omega arith;
         fraction = refl;
       } in
-      cond-either Begins (entryAt place v .«has_adpcm») (set-voice-history (entryAt place v .adpcm) (begunAt start (entryAt place v) (taken place v)))
+      cond-either Begins (entryAt place v .«has_adpcm»)
+      (set-voice-history (entryAt place v .adpcm) (begunAt start (entryAt place v) (taken place v)))
       (begunAt start (entryAt place v) (taken place v)) brought same
 
   -- so many samples of it are decoded: none, or as many as fit the lane
@@ -169,7 +171,8 @@ module _ (L : ℕ) (v : Voice) (w : WellFormed L v) (long : length (v .queue) �
         u = begun (entryAt place v) (taken place v)
 
         by : (b : Bool) → decodable window base (entryAt place v) ≡ b
-            → WellFormed L (cond b (decodedVoice (adpcmIn window base (entryAt place v)) (entryAt place v .length) u) (set-voice-decoded 0 u))
+            → WellFormed L (cond b (decodedVoice (adpcmIn window base (entryAt place v)) (entryAt place v .length) u)
+            (set-voice-decoded 0 u))
         by true d = formed-at u begins (entryAt place v .length) (decodable-fits d) _
         by false d = formed-at u begins 0 (omega arith) (u .history)
 

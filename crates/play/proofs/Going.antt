@@ -225,7 +225,8 @@ module _ (window : List ℕ) (base : ℕ) where
           gone =
               sym (onward-add window base start output (r .count))
               ∙ ap (onward window base (r .count)) (g .gone)
-              ∙ onward-turned window base m (record { voice = x; lane = lane'; samples = g .samples; dequeues = s .0 }) (160 - output) r (s .1) t
+              ∙ onward-turned window base m (record { voice = x; lane = lane'; samples = g .samples; dequeues = s .0 })
+              (160 - output) r (s .1) t
               ∙ ap (λ (c : Cursor). record { voice = at c x; lane = lane'; samples = g .samples ++ new; dequeues = s .0 })
               (sym (t .cursor-is));
           stored =
@@ -242,7 +243,8 @@ module _ (window : List ℕ) (base : ℕ) where
     -- nothing remains and nothing is queued: the frame goes no further
     pub going-stop : readied window base w .found ≡ false → onward window base 160 start ≡ m
     going-stop f =
-        let z : w .remaining ≡ 0 = by-remaining w (λ e. e) (λ n. absurd (clash (sym (ap (λ (d : Dequeued). d .found) (readied-plays w n)) ∙ f))) in
+        let z : w .remaining ≡ 0 = by-remaining w (λ e. e)
+        (λ n. absurd (clash (sym (ap (λ (d : Dequeued). d .found) (readied-plays w n)) ∙ f))) in
         let none = sym (ap (λ (d : Dequeued). d .found) (readied-begins w z)) ∙ f in
         let all : output + (160 - output) ≡ 160 = omega (arith, g .reach) in
         ap (λ (k : ℕ). onward window base k start) (sym all)

@@ -31,7 +31,8 @@ module _ (window : List ℕ) (base : ℕ) where
     next-plays h = cond-no _ _ (ne-eqb _ _ h)
 
     pub next-begins :
-        m .voice .remaining ≡ 0 → dequeued window base (m .voice) .found ≡ true → next window base m ≡ sounded window base (begunNext window base m)
+        m .voice .remaining ≡ 0 → dequeued window base (m .voice) .found ≡ true
+        → next window base m ≡ sounded window base (begunNext window base m)
     unfolding next
     next-begins h f = cond-yes _ _ (eq-eqb _ _ h) ∙ cond-yes _ _ f
 

@@ -44,7 +44,8 @@ module _ (queue : List Entry) where
   next-best n place true e f =
       let lt = ltb-true (idAt queue n) (idAt queue place) e in
       record {
-        smallest = λ k h. ⊎-elim (λ l. omega (arith, f .smallest k l)) (λ g. let same : k ≡ n = omega arith in rw same (omega arith)) (below-or k n);
+        smallest = λ k h. ⊎-elim (λ l. omega (arith, f .smallest k l)) (λ g. let same : k ≡ n = omega arith in rw same (omega arith))
+            (below-or k n);
         first = λ k h. omega (arith, f .smallest k h);
       }
   next-best n place false e f =

@@ -5,7 +5,8 @@ use mathlib.Core.Path.{_≡_, refl, sym, _∙_, ap}
 use mathlib.Core.List.{List, [], _∷_, _++_}
 use native.Mathlib.Omega.{arith}
 use lib.ListN.{length, getD, take, drop, length-append, length-take, length-drop, take-append-drop, List·getD-append}
-use lib.Seq.{length-take-le, getD-take, getD-append-add, getD-drop, getD-at, take-at, take-append-add, take-append-le, take-take, take-add, drop-at}
+use lib.Seq.{length-take-le, getD-take, getD-append-add, getD-drop, getD-at, take-at}
+use lib.Seq.{take-append-add, take-append-le, take-take, take-add, drop-at}
 use Rattle.lists.proofs.Fill.{filled}
 use Rattle.voice.specs.Blank.{blankEntry}
 use Rattle.voice.specs.Malformed.{queuedIn}

@@ -91,7 +91,8 @@ module _ (t : Track) (c : Cursor) (room : ℕ) where
           (subst (λ (d : Cursor). 0 < after (t .rate) (suc (j - n)) d .remaining) (a .cursor-is) p))
 
   -- one sample more, where something remains after it
-  pub onward-more : (n : ℕ) (at : Cursor) → Onward t c room (record { cursor = at; count = n }) → n < room → 0 < moved (t .rate) at .remaining
+  pub onward-more : (n : ℕ) (at : Cursor) → Onward t c room (record { cursor = at; count = n }) → n < room
+      → 0 < moved (t .rate) at .remaining
       → Onward t c room (record { cursor = moved (t .rate) at; count = n + 1 })
   onward-more n at a h p =
       onward-add n at (record { cursor = moved (t .rate) at; count = 1 }) a

@@ -18,7 +18,8 @@ use Rattle.numbers.specs.Wrap.{signed16}
 use Rattle.filters.specs.Defaults.{defaultSimple, defaultBiquad}
 use Rattle.voice.specs.declared.record.Voice.{Voice}
 use Rattle.voice.specs.Blank.{places, blankHistory, blankEntry, defaultVoice}
-use Rattle.voice.specs.Range.{isByte, unsigned, signed, historyInRange, entryInRange, simpleIn32, biquadIn32, rangeTests, inRange, InRange}
+use Rattle.voice.specs.Range.{isByte, unsigned, signed, historyInRange, entryInRange}
+use Rattle.voice.specs.Range.{simpleIn32, biquadIn32, rangeTests, inRange, InRange}
 use Rattle.voice.specs.Range.{sized, Sized}
 
 -- ---- a number

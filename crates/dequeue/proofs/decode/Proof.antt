@@ -25,7 +25,8 @@ returns c =
     let d = c .before .before in
     let s = d .before .before .before .before .before .before in
     let v = s .args .v in
-    let fine = well (length (now (s .args .bytes))) (s .args .count) (length (now (s .args .lane))) (s .pre .1 .0) (s .pre .0) (s .pre .1 .1) in (
+    let fine = well (length (now (s .args .bytes))) (s .args .count) (length (now (s .args .lane)))
+    (s .pre .1 .0) (s .pre .0) (s .pre .1 .1) in (
       ap (λ (h : History). set-voice-decoded (s .args .count) (set-voice-history h v))
           (ap (λ (a : Decoded). a .history) (d .decode-adpcm .ensures .0 ∙ cond-no _ _ fine)),
       d .decode-adpcm .ensures .1 ∙ cond-no _ _ fine,

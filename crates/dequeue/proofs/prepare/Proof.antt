@@ -32,11 +32,13 @@ fits c =
 -- whether its bytes are present
 present-is : (c : tie.After-present)
     → presentIn (length (now (c .before .before .before .before .before .before .args .window)))
-    (c .before .before .before .before .before .before .args .base) (aligned (c .before .before .before .before .before .before .args .e .address))
+    (c .before .before .before .before .before .before .args .base)
+    (aligned (c .before .before .before .before .before .before .args .e .address))
     (framesOf (c .before .before .before .before .before .before .args .e .length) * 8) ≡ c .present .result
 present-is c =
     let s = c .before .before .before .before .before .before in
-    sym (c .present .ensures ∙ ap (λ (a : ℕ). presentIn (length (now (s .args .window))) (s .args .base) a (framesOf (s .args .e .length) * 8))
+    sym (c .present .ensures
+    ∙ ap (λ (a : ℕ). presentIn (length (now (s .args .window))) (s .args .base) a (framesOf (s .args .e .length) * 8))
     (c .before .align .ensures))
 
 -- the bytes that the look-up hands back

@@ -22,16 +22,22 @@ unfolding startOf
 returns-2 c =
     let s = c .before .before .before in
     let e = s .before .args .e in
-    let least : min (e .«play_position») (e .length) ≡ e .«play_position» = omega arith in
-    (sym (cond-no 0 (min (e .«play_position») (e .length)) (sym (s .was-played .ensures) ∙ c .before .before .if1 .left) ∙ least), omega arith)
+    let least : min (e .«play_position») (e .length) ≡ e .«play_position» = omega arith in (
+      sym (cond-no 0 (min (e .«play_position») (e .length)) (sym (s .was-played .ensures) ∙ c .before .before .if1 .left)
+          ∙ least),
+      omega arith,
+    )
 
 returns-3 : tie.Need-returns-3
 unfolding startOf
 returns-3 c =
     let s = c .before .before .before in
     let e = s .before .args .e in
-    let least : min (e .«play_position») (e .length) ≡ e .length = omega arith in
-    (sym (cond-no 0 (min (e .«play_position») (e .length)) (sym (s .was-played .ensures) ∙ c .before .before .if1 .left) ∙ least), omega arith)
+    let least : min (e .«play_position») (e .length) ≡ e .length = omega arith in (
+      sym (cond-no 0 (min (e .«play_position») (e .length)) (sym (s .was-played .ensures) ∙ c .before .before .if1 .left)
+          ∙ least),
+      omega arith,
+    )
 
 pub start-of-spec : {M : Type 1} → statement M
 start-of-spec = tie.close (tie.spec was-played-requires returns returns-2 returns-3)

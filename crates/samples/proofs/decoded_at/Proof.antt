@@ -37,7 +37,8 @@ returns-2 : tie.Need-returns-2
 returns-2 c =
     let s = c .before .before in
     c .silent .ensures
-    ∙ sym (cond-no (both (getD (now (s .args .lane)) (s .args .index) (pos 0))) silence (le-ltb (s .args .index) (s .args .decoded) (c .before .if1 .left)))
+    ∙ sym (cond-no (both (getD (now (s .args .lane)) (s .args .index) (pos 0))) silence
+    (le-ltb (s .args .index) (s .args .decoded) (c .before .if1 .left)))
 
 pub decoded-at-spec : {M : Type 1} → statement M
 decoded-at-spec =

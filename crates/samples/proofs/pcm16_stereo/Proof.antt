@@ -42,7 +42,8 @@ returns-2 c =
     let right = c .signed-at2 .result in
     let held : toZ w16 (ofZ w16 left) ≡ left = search needs in
     let kept : toZ w16 (ofZ w16 right) ≡ right = search needs in
-    (λ i. stereoSample ((held ∙ c .before .signed-at .ensures) i) ((kept ∙ c .signed-at2 .ensures) i)) ∙ ap stereoOf16 (p .physical .ensures)
+    (λ i. stereoSample ((held ∙ c .before .signed-at .ensures) i) ((kept ∙ c .signed-at2 .ensures) i))
+    ∙ ap stereoOf16 (p .physical .ensures)
 
 pub pcm16-stereo-spec : {M : Type 1} → statement M
 pcm16-stereo-spec =

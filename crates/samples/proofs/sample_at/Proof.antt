@@ -30,7 +30,8 @@ unfolding sampleAt
 returns c =
     let s = c .before .before .before .before in
     c .pcm8-at .ensures
-    ∙ sym (ap (λ (f : Format). sampleBy (now (s .args .window)) (s .args .base) (now (s .args .lane)) (s .args .decoded) f (s .args .e) (s .args .index))
+    ∙ sym (ap (λ (f : Format). sampleBy (now (s .args .window)) (s .args .base) (now (s .args .lane))
+    (s .args .decoded) f (s .args .e) (s .args .index))
     (c .before .enum-told .given .1))
 
 returns-2 : tie.Need-returns-2
@@ -38,7 +39,8 @@ unfolding sampleAt
 returns-2 c =
     let s = c .before .before .before .before in
     c .pcm16-at .ensures
-    ∙ sym (ap (λ (f : Format). sampleBy (now (s .args .window)) (s .args .base) (now (s .args .lane)) (s .args .decoded) f (s .args .e) (s .args .index))
+    ∙ sym (ap (λ (f : Format). sampleBy (now (s .args .window)) (s .args .base) (now (s .args .lane))
+    (s .args .decoded) f (s .args .e) (s .args .index))
     (c .before .enum-told2 .given .1))
 
 returns-3 : tie.Need-returns-3
@@ -46,7 +48,8 @@ unfolding sampleAt
 returns-3 c =
     let s = c .before .before .before .before in
     c .decoded-at .ensures
-    ∙ sym (ap (λ (f : Format). sampleBy (now (s .args .window)) (s .args .base) (now (s .args .lane)) (s .args .decoded) f (s .args .e) (s .args .index))
+    ∙ sym (ap (λ (f : Format). sampleBy (now (s .args .window)) (s .args .base) (now (s .args .lane))
+    (s .args .decoded) f (s .args .e) (s .args .index))
     (c .before .enum-told3 .given .1))
 
 pub sample-at-spec : {M : Type 1} → statement M

@@ -12,7 +12,14 @@ is-plain-requires c κs = search needs
 returns : tie.Need-returns
 returns c =
     let v = c .before .before .before .args .v in
-    ap (λ (b : Bool). record { «has_playing» = v .«has_playing»; playing = v .playing; length = v .length; decoded = v .decoded; rate = v .rate; plain = b })
+    ap (λ (b : Bool). record {
+      «has_playing» = v .«has_playing»;
+      playing = v .playing;
+      length = v .length;
+      decoded = v .decoded;
+      rate = v .rate;
+      plain = b;
+    })
     (c .is-plain .ensures)
 
 pub track-of-spec : {M : Type 1} → statement M

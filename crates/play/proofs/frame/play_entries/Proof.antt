@@ -78,7 +78,8 @@ again : (c : tie.After-move-to Inv-loop μ-loop)
     → Going (win (ready (c .before .before .before .before .before))) (base (ready (c .before .before .before .before .before)))
     (given (ready (c .before .before .before .before .before))) (L (ready (c .before .before .before .before .before)))
     (ready (c .before .before .before .before .before) .ready .last .1 .1 .1 .0) (c .before .before .play-entry .last .1 .1 .1 .1 .1 .0)
-    (c .move-to .result) (loop (ready (c .before .before .before .before .before)) .loop .output + c .before .before .play-entry .result .count)
+    (c .move-to .result)
+    (loop (ready (c .before .before .before .before .before)) .loop .output + c .before .before .play-entry .result .count)
 again c =
     let p = c .before .before in
     let u = p .before .before .before in
@@ -174,7 +175,10 @@ returns c =
       sym (ap (λ (m : Midst). m .voice) all),
       (
         sym (ap (λ (m : Midst). m .lane) all),
-        (g .stored ∙ sym (ap (λ (m : Midst). frameOf (m .samples)) all), sym (g .produced) ∙ sym (ap (λ (m : Midst). length (m .samples)) all)),
+        (
+          g .stored ∙ sym (ap (λ (m : Midst). frameOf (m .samples)) all),
+          sym (g .produced) ∙ sym (ap (λ (m : Midst). length (m .samples)) all),
+        ),
       ),
     )
 
@@ -183,7 +187,8 @@ same-length-2 c =
     let r = c .before .before .before in
     let l = loop r in
     let g = going r in
-    ap length (r .ready .ensures .1) ∙ readied-lane-long (win r) (base r) (L r) (w r) (l .loop .lane) (g .formed) (g .places-kept) (g .lane-long)
+    ap length (r .ready .ensures .1) ∙ readied-lane-long (win r) (base r) (L r) (w r) (l .loop .lane)
+    (g .formed) (g .places-kept) (g .lane-long)
 
 returns-2 : tie.Need-returns-2 Inv-loop μ-loop
 returns-2 c =
@@ -196,7 +201,10 @@ returns-2 c =
       sym (ap (λ (m : Midst). m .voice) all),
       (
         r .ready .ensures .1 ∙ still ∙ sym (ap (λ (m : Midst). m .lane) all),
-        (g .stored ∙ sym (ap (λ (m : Midst). frameOf (m .samples)) all), sym (g .produced) ∙ sym (ap (λ (m : Midst). length (m .samples)) all)),
+        (
+          g .stored ∙ sym (ap (λ (m : Midst). frameOf (m .samples)) all),
+          sym (g .produced) ∙ sym (ap (λ (m : Midst). length (m .samples)) all),
+        ),
       ),
     )
 

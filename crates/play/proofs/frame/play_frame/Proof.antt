@@ -21,7 +21,8 @@ be-silent-requires : tie.Need-be-silent-requires
 be-silent-requires c κs =
     let o = c .before .before .before in
     let s = o .before .before in (
-      subst (WellFormed (length (now (s .args .lane)))) (sym (o .«open» .ensures)) (opened-formed (length (now (s .args .lane))) (s .args .v) (s .pre .0)),
+      subst (WellFormed (length (now (s .args .lane)))) (sym (o .«open» .ensures))
+          (opened-formed (length (now (s .args .lane))) (s .args .v) (s .pre .0)),
       s .pre .1,
     )
 
@@ -40,9 +41,11 @@ returns c =
     let yes : played window (s .args .base) (s .args .v) lane ≡ silentFrame window (s .args .base) (opened (s .args .v)) lane =
     cond-yes _ _ (sym (t .before .is-silent .ensures) ∙ t .if1 .taken) in
     let w = o .«open» .ensures in (
-      b .be-silent .ensures .0 ∙ ap (λ (v : Voice). silentFrame window (s .args .base) v lane .voice) w ∙ sym (ap (λ (f : Frame). f .voice) yes),
+      b .be-silent .ensures .0 ∙ ap (λ (v : Voice). silentFrame window (s .args .base) v lane .voice) w
+          ∙ sym (ap (λ (f : Frame). f .voice) yes),
       (
-        b .be-silent .ensures .1 ∙ ap (λ (v : Voice). silentFrame window (s .args .base) v lane .lane) w ∙ sym (ap (λ (f : Frame). f .lane) yes),
+        b .be-silent .ensures .1 ∙ ap (λ (v : Voice). silentFrame window (s .args .base) v lane .lane) w
+            ∙ sym (ap (λ (f : Frame). f .lane) yes),
         sym (ap (λ (f : Frame). f .produced) yes),
       ),
     )
@@ -51,7 +54,8 @@ play-requires : tie.Need-play-requires
 play-requires c κs =
     let o = c .before .before .before in
     let s = o .before .before in (
-      subst (WellFormed (length (now (s .args .lane)))) (sym (o .«open» .ensures)) (opened-formed (length (now (s .args .lane))) (s .args .v) (s .pre .0)),
+      subst (WellFormed (length (now (s .args .lane)))) (sym (o .«open» .ensures))
+          (opened-formed (length (now (s .args .lane))) (s .args .v) (s .pre .0)),
       s .pre .1,
     )
 
