@@ -52,13 +52,17 @@ followsOn v = v .«ran_out_at_frame_end» && not (eqb (v .queued) 0)
 abbrev pub isSilent : Voice → Bool
 isSilent v = eqb (v .remaining) 0 && not (followsOn v)
 
--- a record as its frame begins: nothing is produced yet, and that the last frame's entry ended with it is known no more
+-- a record as a silent frame begins: nothing is produced, and that the last frame's entry ended with it is known no more
 unfoldable pub opened : Voice → Voice
 opened v = set-voice-frame (replicate FRAME (pos 0)) (set-voice-ran-out-at-frame-end false v)
 
--- a voice at the start of a frame that plays: its position is what was played of the entry
+-- a voice before the first sample of a frame
+abbrev pub entering : Voice → List ℤ → Midst
+entering v lane = record { voice = v; lane = lane; samples = []; dequeues = 0 }
+
+-- the same in a frame that plays: its position is what was played of the entry
 abbrev pub started : Voice → List ℤ → Midst
-started v lane = record { voice = set-voice-position (v .length - v .remaining) v; lane = lane; samples = []; dequeues = 0 }
+started v lane = entering (set-voice-position (v .length - v .remaining) v) lane
 
 -- "switches off": the entry that ended is reported as the last one, and none as the current
 unfoldable pub switchedOff : Voice → Voice
@@ -124,4 +128,4 @@ module _ (window : List ℕ) (base : ℕ) where
 
   -- "A voice with nothing remaining and not following on spends a silent frame dequeuing, or switches off"; any other plays
   unfoldable pub played : Voice → List ℤ → Frame
-  played v lane = cond (isSilent v) (silentFrame (opened v) lane) (playingFrame (opened v) lane)
+  played v lane = cond (isSilent v) (silentFrame (opened v) lane) (playingFrame v lane)

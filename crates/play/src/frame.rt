@@ -1,22 +1,24 @@
 // What a voice plays in one frame.
 use crate::entry::play_entry;
-use dequeue::Dequeued;
 use dequeue::dequeue;
 use numbers::sizes::FRAME;
 use numbers::sizes::FRAME_SAMPLES;
 use steps::step::Cursor;
+use steps::stretch::Reached;
+use track::Track;
 use track::cursor_of;
 use track::track_of;
 use voice::record::Voice;
 ghost use mathlib.Core.Path.{_≡_};
-ghost use Prim.Native.Nat.{_≤_};
+ghost use Prim.Native.Nat.{_≤_, _<_};
 ghost use lib.IntN.{pos};
 ghost use lib.ListN.{length, replicate};
-ghost use Rattle.numbers.specs.Sizes.{FRAME};
+ghost use Rattle.numbers.specs.Sizes.{«FRAME_SAMPLES», FRAME};
 ghost use Rattle.adpcm.specs.Sizes.{mostSamples};
 ghost use Rattle.voice.specs.Malformed.{WellFormed};
-ghost use Rattle.play.specs.Play.{frameOf, at, isSilent, opened, switchedOff, silentFrame, playingFrame, played};
-ghost use Rattle.play.specs.Inner.{readied, readiedLane, filled, closed};
+ghost use Rattle.track.specs.Laid.{laid, Turned};
+ghost use Rattle.play.specs.Play.{frameOf, isSilent, opened, switchedOff, silentFrame, playingFrame, played};
+ghost use Rattle.play.specs.Inner.{filled};
 
 // What a frame comes to: the record, and how many samples were produced.
 pub struct Played {
@@ -24,7 +26,7 @@ pub struct Played {
     pub produced: usize,
 }
 
-// The record as its frame begins.
+// The record as a silent frame begins.
 fn open(v: Voice) -> Voice
     ensures { λ r. ⌜ r ≡ opened v ⌝ }
 {
@@ -61,33 +63,34 @@ fn be_silent(v: Voice, window: &[u8], base: u32, lane: &mut [i16]) -> Voice
     switch_off(v)
 }
 
-// The record with something to play: where nothing remains, the next entry is dequeued.
-fn ready(v: Voice, window: &[u8], base: u32, lane: &mut [i16]) -> Dequeued
-    requires { ⌜ WellFormed (length (now lane)) v ⌝ }
-    requires { ⌜ length (now lane) ≤ mostSamples ⌝ }
-    ensures record { λ r. ⌜ r ≡ readied (now (window .entry)) base v ⌝ }
-    ensures lane { λ _. ⌜ now (lane .exit) ≡ readiedLane (now (window .entry)) base v (now (lane .entry)) ⌝ }
+// Plays what is left of the entry at hand.
+fn play_left(
+    window: &[u8],
+    base: u32,
+    lane: &[i16],
+    t: Track,
+    c: Cursor,
+    frame: &mut [i16; FRAME],
+) -> Reached
+    requires { ⌜ length (now frame) ≡ FRAME ⌝ }
+    requires { ⌜ c .remaining ≤ t .length ⌝ }
+    requires { ⌜ t .decoded ≤ length (now lane) ⌝ }
+    ensures none { λ r. ⌜ (c .remaining ≡ 0 → r ≡ record { cursor = c; count = 0 }) ⌝ }
+    ensures some { λ r. ⌜ (0 < c .remaining → Turned t c «FRAME_SAMPLES» r) ⌝ }
+    ensures frame { λ r. ⌜ now (frame .exit) ≡
+        laid (now (window .entry)) base (now (lane .entry)) t c 0 (r .count) (now (frame .entry)) ⌝ }
 {
-    if v.remaining == 0 {
-        return dequeue(v, window, base, lane);
+    if c.remaining == 0 {
+        return Reached {
+            cursor: c,
+            count: 0,
+        };
     }
-    Dequeued {
-        voice: v,
-        found: true,
-    }
+    play_entry(window, base, lane, t, c, frame, 0)
 }
 
-// The record with playing at another place.
-fn move_to(v: Voice, c: Cursor) -> Voice
-    ensures { λ r. ⌜ r ≡ at c v ⌝ }
-{
-    let mut w = v;
-    w.remaining = c.remaining;
-    w.fraction = c.fraction;
-    w
-}
-
-// Plays entries one after the other, until the frame is full or nothing is queued.
+// Plays what is left of the entry at hand, and then entries one after the other, until the frame is full or nothing is queued. Stores go
+// to the record in its place, since one that is handed on is copied.
 fn play_entries(
     v: Voice,
     window: &[u8],
@@ -103,37 +106,29 @@ fn play_entries(
     ensures frame { λ _. ⌜ now (frame .exit) ≡ frameOf (filled (now (window .entry)) base v (now (lane .entry)) .samples) ⌝ }
     ensures produced { λ r. ⌜ r .produced ≡ length (filled (now (window .entry)) base v (now (lane .entry)) .samples) ⌝ }
 {
+    let first = play_left(window, base, lane, track_of(v), cursor_of(v), frame);
+    let left = first.cursor;
     let mut w = v;
-    let mut output = 0;
+    w.remaining = left.remaining;
+    w.fraction = left.fraction;
+    let mut output = first.count;
     while output < FRAME_SAMPLES {
-        let d = ready(w, window, base, lane);
+        let d = dequeue(w, window, base, lane);
         if !d.found {
             break;
         }
         let x = d.voice;
-        let t = track_of(x);
-        let c = cursor_of(x);
-        let r = play_entry(window, base, lane, t, c, frame, output);
+        let r = play_entry(window, base, lane, track_of(x), cursor_of(x), frame, output);
         let reached = r.cursor;
-        w = move_to(x, reached);
+        w = x;
+        w.remaining = reached.remaining;
+        w.fraction = reached.fraction;
         output += r.count;
     }
     Played {
         voice: w,
         produced: output,
     }
-}
-
-// The record with what a frame that played left.
-fn close(v: Voice, frame: [i16; FRAME], produced: usize) -> Voice
-    ensures { λ r. ⌜ r ≡ closed frame produced v ⌝ }
-{
-    let mut w = v;
-    let ran_out = v.remaining == 0;
-    let full = produced == FRAME_SAMPLES;
-    w.ran_out_at_frame_end = ran_out & full;
-    w.frame = frame;
-    w
 }
 
 // A frame that plays.
@@ -148,9 +143,13 @@ fn play(v: Voice, window: &[u8], base: u32, lane: &mut [i16]) -> Played
     w.position = v.length - v.remaining;
     let mut frame = [0i16; FRAME];
     let p = play_entries(w, window, base, lane, &mut frame);
-    let x = p.voice;
+    let mut x = p.voice;
+    let ran_out = x.remaining == 0;
+    let full = p.produced == FRAME_SAMPLES;
+    x.ran_out_at_frame_end = ran_out & full;
+    x.frame = frame;
     Played {
-        voice: close(x, frame, p.produced),
+        voice: x,
         produced: p.produced,
     }
 }
@@ -173,12 +172,12 @@ pub fn play_frame(v: Voice, window: &[u8], base: u32, lane: &mut [i16]) -> Playe
     ensures lane { λ _. ⌜ now (lane .exit) ≡ played (now (window .entry)) base v (now (lane .entry)) .lane ⌝ }
     ensures produced { λ r. ⌜ r .produced ≡ played (now (window .entry)) base v (now (lane .entry)) .produced ⌝ }
 {
-    let w = open(v);
     if is_silent(v) {
+        let w = open(v);
         return Played {
             voice: be_silent(w, window, base, lane),
             produced: 0,
         };
     }
-    play(w, window, base, lane)
+    play(v, window, base, lane)
 }

@@ -46,7 +46,7 @@ module _ (window : List ℕ) (base : ℕ) where
   onward-long m (suc n) = omega (arith, next-long (onward window base n m), onward-long m n)
 
   pub produced-most : (v : Voice) (lane : List ℤ) → length (reached window base v lane .samples) ≤ 160
-  produced-most v lane = omega (arith, onward-long (started (opened v) lane) «FRAME_SAMPLES»)
+  produced-most v lane = omega (arith, onward-long (started v lane) «FRAME_SAMPLES»)
 
   -- ---- dequeues
 
@@ -55,16 +55,16 @@ module _ (window : List ℕ) (base : ℕ) where
   unfolding sounded begunNext
   each-sounds v lane =
       onward-keeps window base (λ m. m .dequeues ≤ length (m .samples)) (λ m h. omega (arith, sounded-long m))
-      (λ m h f. omega (arith, sounded-long (begunNext window base m))) (started (opened v) lane) (omega arith) «FRAME_SAMPLES»
+      (λ m h f. omega (arith, sounded-long (begunNext window base m))) (started v lane) (omega arith) «FRAME_SAMPLES»
 
   -- with none, nothing of theirs has changed
   abbrev Idle : Voice → List ℤ → Midst → Type 0
   Idle v lane m = m .dequeues ≡ 0 → entriesOf (m .voice) (m .lane) ≡ entriesOf v lane
 
-  pub onward-idle : (v : Voice) (lane : List ℤ) (n : ℕ) → Idle v lane (onward window base n (started (opened v) lane))
+  pub onward-idle : (v : Voice) (lane : List ℤ) (n : ℕ) → Idle v lane (onward window base n (started v lane))
   unfolding sounded begunNext opened
   onward-idle v lane n =
-      onward-keeps window base (Idle v lane) (λ m p. p) (λ m p f z. absurd (omega arith)) (started (opened v) lane) (λ z. refl) n
+      onward-keeps window base (Idle v lane) (λ m p. p) (λ m p f z. absurd (omega arith)) (started v lane) (λ z. refl) n
 
 pub at-most-160 : AtMost160
 at-most-160 window base v lane =
@@ -143,7 +143,7 @@ module _ (window : List ℕ) (base : ℕ) where
       (λ m p f.
       let d = dequeued-fewer (m .voice) (p .quiet) f in
       record { quiet = record { room = d .quiet .room; none = d .quiet .none }; count = omega (arith, d .count, p .count) })
-      (started (opened v) lane) (record { quiet = record { room = q .room; none = q .none }; count = omega arith }) «FRAME_SAMPLES»
+      (started v lane) (record { quiet = record { room = q .room; none = q .none }; count = omega arith }) «FRAME_SAMPLES»
 
 pub dequeues-counted : DequeuesCounted
 unfolding ended switchedOff opened

@@ -62,10 +62,10 @@ module _ (window : List ℕ) (base L : ℕ) where
     unfolding begunNext malformed
     reached-fit =
         onward-keeps window base (λ (m : Midst). Fit L (m .voice) (m .lane)) sounded-fit
-        (λ m p t. sounded-fit (begunNext window base m) (dequeued-fit (m .voice) (m .lane) p)) (started (opened v) lane)
+        (λ m p t. sounded-fit (begunNext window base m) (dequeued-fit (m .voice) (m .lane) p)) (started v lane)
         (record {
-          formed = same-formed L (opened v) (started (opened v) lane .voice) refl (opened-fit .formed);
-          all-places = opened-fit .all-places;
+          formed = same-formed L v (started v lane .voice) refl (f .formed);
+          all-places = f .all-places;
           lane-long = f .lane-long;
         })
         «FRAME_SAMPLES»

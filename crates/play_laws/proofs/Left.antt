@@ -45,7 +45,7 @@ module _ (window : List ℕ) (base : ℕ) where
   unfolding sounded begunNext opened
   reached-settings v lane =
       onward-keeps window base (λ m. settingsOf (m .voice) ≡ settingsOf v) (λ m e. e) (λ m e f. dequeued-left (m .voice) f .settings ∙ e)
-      (started (opened v) lane) refl «FRAME_SAMPLES»
+      (started v lane) refl «FRAME_SAMPLES»
 
 pub settings-left : SettingsLeft
 unfolding ended switchedOff opened

@@ -82,12 +82,12 @@ module _ (window other : List ℕ) (base there : ℕ) where
   -- ---- a frame
 
   onward-once : (v : Voice) (lane : List ℤ) → v .playing .format ≡ Adpcm → (n : ℕ)
-      → onward window base n (started (opened v) lane) .dequeues ≡ 0
-      → onward window base n (started (opened v) lane) ≡ onward other there n (started (opened v) lane)
+      → onward window base n (started v lane) .dequeues ≡ 0
+      → onward window base n (started v lane) ≡ onward other there n (started v lane)
   unfolding onward
   onward-once v lane a zero e = refl
   onward-once v lane a (suc n) e =
-      let m = onward window base n (started (opened v) lane) in
+      let m = onward window base n (started v lane) in
       let none : m .dequeues ≡ 0 = omega (arith, next-more m, e) in
       let adpcm : m .voice .playing .format ≡ Adpcm =
       ap (λ (x : Entries). x .playing .format) (onward-idle window base v lane n none) ∙ a in

@@ -141,7 +141,7 @@ module _ (window : List ℕ) (base : ℕ) where
 
   -- how a frame that plays begins, and what it comes to
   abbrev pub reached : Voice → List ℤ → Midst
-  reached v lane = onward window base «FRAME_SAMPLES» (started (opened v) lane)
+  reached v lane = onward window base «FRAME_SAMPLES» (started v lane)
 
   abbrev pub madeOf : Midst → Frame
   madeOf m = record { voice = ended m; lane = m .lane; produced = length (m .samples); dequeues = m .dequeues }

@@ -38,7 +38,7 @@ module _ (window : List ℕ) (base : ℕ) (v : Voice) (lane : List ℤ) where
   placed =
       onward-keeps window base (λ (m : Midst). Placed from (m .dequeues) (m .voice)) (λ m p. record { still = p .still; last = p .last })
       (λ m p f. record { still = λ z. absurd (omega arith); last = λ z. begun-placed window base (m .voice) f })
-      (started (opened v) lane) (record { still = λ z. refl; last = λ z. absurd (omega arith) }) «FRAME_SAMPLES»
+      (started v lane) (record { still = λ z. refl; last = λ z. absurd (omega arith) }) «FRAME_SAMPLES»
 
   frame-placed : isSilent v ≡ false → Placed from (played window base v lane .dequeues) (played window base v lane .voice)
   unfolding ended

@@ -236,8 +236,8 @@ module _ (window : List ℕ) (base : ℕ) (bytes : every isByte window ≡ true)
     reached-in =
         let far : v .length - v .remaining < 2 ^ 32 = omega (arith, test-in-range v r .length) in
         onward-keeps window base Sounds sounded-in (λ m s f. sounded-in (begunNext window base m) (begun-in m s f))
-        (started (opened v) lane)
-        (record { voice = placed-in (opened v) (opened-in v r) (v .length - v .remaining) far; lane = l; samples = refl }) «FRAME_SAMPLES»
+        (started v lane)
+        (record { voice = placed-in v r (v .length - v .remaining) far; lane = l; samples = refl }) «FRAME_SAMPLES»
 
     frame-in : Ranged (played window base v lane)
     unfolding ended

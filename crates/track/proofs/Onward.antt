@@ -1,7 +1,7 @@
 -- One stretch of an entry after another is one stretch, and a single sample is one: the cursors, the frame, and that something remains on
 -- the way. By `after-add` of steps. Assumes nothing.
 use mathlib.Core.Path.{_≡_, refl, sym, ap, _∙_, subst}
-use mathlib.Core.Logic.{_⊎_, inl, ⊎-elim}
+use mathlib.Core.Logic.{_⊎_, inl, inr, ⊎-elim}
 use mathlib.Core.List.{List}
 use Prim.Native.Nat.{ℕ, zero, suc, _+_, _-_, _≤_, _<_}
 use native.Mathlib.Numerals.{add-one}
@@ -73,22 +73,36 @@ module _ (t : Track) (c : Cursor) (room : ℕ) where
   pub onward-none : Onward t c room (record { cursor = c; count = 0 })
   onward-none = record { count-most = omega arith; cursor-is = sym (after-none t c); inside = λ j h. omega arith }
 
+  -- what remains so many samples on from a cursor on the way
+  from-there : (n : ℕ) (at : Cursor) → at ≡ after (t .rate) n c → (j : ℕ) → n ≤ j → 0 < after (t .rate) (suc (j - n)) at .remaining
+      → 0 < after (t .rate) (suc j) c .remaining
+  from-there n at e j l p =
+      let sum : n + suc (j - n) ≡ suc j = omega arith in
+      subst (λ (k : ℕ). 0 < after (t .rate) k c .remaining) sum
+      (subst (λ (d : Cursor). 0 < d .remaining) (after-add (t .rate) c n (suc (j - n)))
+      (subst (λ (d : Cursor). 0 < after (t .rate) (suc (j - n)) d .remaining) e p))
+
   -- a stretch after another
   pub onward-add : (n : ℕ) (at : Cursor) (r : Reached) → Onward t c room (record { cursor = at; count = n }) → Onward t at (room - n) r
       → Onward t c room (record { cursor = r .cursor; count = n + r .count })
   onward-add n at r a b = record {
     count-most = omega (arith, a .count-most, b .count-most);
     cursor-is = b .cursor-is ∙ ap (after (t .rate) (r .count)) (a .cursor-is) ∙ after-add (t .rate) c n (r .count);
-    inside = λ j h. ⊎-elim (λ l. a .inside j l) (λ l. later j h l) (below-or j n);
+    inside = λ j h. ⊎-elim (λ l. a .inside j l)
+        (λ l. from-there n at (a .cursor-is) j l (b .inside (j - n) (omega arith))) (below-or j n);
   }
-    where
-      later : (j : ℕ) → j < n + r .count → n ≤ j → 0 < after (t .rate) (suc j) c .remaining
-      later j h l =
-          let e : n + suc (j - n) ≡ suc j = omega arith in
-          let p : 0 < after (t .rate) (suc (j - n)) at .remaining = b .inside (j - n) (omega arith) in
-          subst (λ (k : ℕ). 0 < after (t .rate) k c .remaining) e
-          (subst (λ (d : Cursor). 0 < d .remaining) (after-add (t .rate) c n (suc (j - n)))
-          (subst (λ (d : Cursor). 0 < after (t .rate) (suc (j - n)) d .remaining) (a .cursor-is) p))
+
+  -- a turn after a stretch
+  pub turned-add : (n : ℕ) (at : Cursor) (r : Reached) → Onward t c room (record { cursor = at; count = n }) → Turned t at (room - n) r
+      → Turned t c room (record { cursor = r .cursor; count = n + r .count })
+  turned-add n at r a b = record {
+    some = omega (arith, b .some);
+    count-most = omega (arith, a .count-most, b .count-most);
+    cursor-is = b .cursor-is ∙ ap (after (t .rate) (r .count)) (a .cursor-is) ∙ after-add (t .rate) c n (r .count);
+    inside = λ j h. ⊎-elim (λ l. a .inside j l)
+        (λ l. from-there n at (a .cursor-is) j l (b .inside (j - n) (omega arith))) (below-or j n);
+    ended = ⊎-elim (λ e. inl (omega (arith, e, a .count-most))) (λ e. inr e) (b .ended);
+  }
 
   -- one sample more, where something remains after it
   pub onward-more : (n : ℕ) (at : Cursor) → Onward t c room (record { cursor = at; count = n }) → n < room

@@ -9,13 +9,13 @@ ghost use Prim.Native.Nat.{_≤_};
 ghost use lib.Dec.{T};
 ghost use Rattle.filters.specs.Range.{filtersInRange};
 
-struct Passed {
-    frame: [i16; 320],
-    filters: Filters,
+pub struct Passed {
+    pub frame: [i16; 320],
+    pub filters: Filters,
 }
 
 // The frame with its first pairs filtered, and the filters after them.
-fn filtered(samples: [i16; 320], count: usize, given: Filters) -> Passed
+pub fn filtered(samples: [i16; 320], count: usize, given: Filters) -> Passed
     requires { ⌜ T (filtersInRange given) × (count ≤ 160) ⌝ }
 {
     let mut frame = samples;
@@ -27,21 +27,6 @@ fn filtered(samples: [i16; 320], count: usize, given: Filters) -> Passed
     }
 }
 
-// The record with its frame's first pairs filtered.
-pub fn filter_frame(v: Voice, count: usize) -> Voice
-    requires { ⌜ T (filtersInRange (v .filters)) × (count ≤ 160) ⌝ }
-{
-    let given = v.filters;
-    let samples = v.frame;
-    let done = filtered(samples, count, given);
-    let frame = done.frame;
-    let after = done.filters;
-    let mut w = v;
-    w.filters = after;
-    w.frame = frame;
-    w
-}
-
 // Filters so many pairs of the record's frame, and says whether the filters are in range; nothing is done where they are not.
 pub fn filter(count: usize, bytes: &mut [u8; 2456]) -> bool
     requires { ⌜ count ≤ 160 ⌝ }
@@ -51,7 +36,13 @@ pub fn filter(count: usize, bytes: &mut [u8; 2456]) -> bool
     if !filters_in_range(given) {
         return false;
     }
-    let after = filter_frame(v, count);
-    put_record(after, bytes);
+    let samples = v.frame;
+    let done = filtered(samples, count, given);
+    let frame = done.frame;
+    let after = done.filters;
+    let mut w = v;
+    w.filters = after;
+    w.frame = frame;
+    put_record(w, bytes);
     true
 }

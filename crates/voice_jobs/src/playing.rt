@@ -1,5 +1,5 @@
 // A frame played.
-use crate::filtering::filter_frame;
+use crate::filtering::filtered;
 use filters::range::filters_in_range;
 use play::frame::Played;
 use play::frame::play_frame;
@@ -9,18 +9,24 @@ use voice::malformed::malformed;
 use voice::record::Voice;
 use voice::tidy::tidy;
 
-// The record with the samples that were produced filtered. A frame that played keeps filters and count in range.
+// The record with the samples that were produced filtered, where a filter is on. A frame that played keeps filters and count in range.
 fn heard(played: Played) -> Voice {
-    let v = played.voice;
     let produced = played.produced;
-    let filters = v.filters;
-    if produced > 160 {
-        return v;
+    let mut w = played.voice;
+    let given = w.filters;
+    if given.has_simple | given.has_biquad {
+        if produced <= 160 {
+            if filters_in_range(given) {
+                let samples = w.frame;
+                let done = filtered(samples, produced, given);
+                let frame = done.frame;
+                let after = done.filters;
+                w.filters = after;
+                w.frame = frame;
+            }
+        }
     }
-    if !filters_in_range(filters) {
-        return v;
-    }
-    filter_frame(v, produced)
+    w
 }
 
 // Plays one frame and answers 0. Refuses with 5 a lane of more than 65,536 samples, and with 7 a record that is malformed for the lane.

@@ -5,22 +5,22 @@ use lib.ListN.{length}
 use Rattle.lists.proofs.Bools.{cond-yes, cond-no}
 use Rattle.voice.specs.Malformed.{WellFormed}
 use Rattle.voice.specs.declared.record.Voice.{Voice}
-use Rattle.play.specs.Play.{Frame, isSilent, opened, silentFrame, playingFrame, played}
+use Rattle.play.specs.Play.{Frame, opened, silentFrame, playingFrame, played}
 use Rattle.play.proofs.Going.{opened-formed}
 use borrow.Author.Needs.{needs}
 use Rattle.play.proofs.frame.play_frame.Statement.{statement}
 use Rattle.play.proofs.frame.play_frame.Tie as tie
 
-open-requires : tie.Need-open-requires
-open-requires c κs = search needs
-
 is-silent-requires : tie.Need-is-silent-requires
 is-silent-requires c κs = search needs
 
+open-requires : tie.Need-open-requires
+open-requires c κs = search needs
+
 be-silent-requires : tie.Need-be-silent-requires
 be-silent-requires c κs =
-    let o = c .before .before .before in
-    let s = o .before .before in (
+    let o = c .before in
+    let s = o .before .before .before .before in (
       subst (WellFormed (length (now (s .args .lane)))) (sym (o .«open» .ensures))
           (opened-formed (length (now (s .args .lane))) (s .args .v) (s .pre .0)),
       s .pre .1,
@@ -33,9 +33,9 @@ returns : tie.Need-returns
 unfolding played silentFrame
 returns c =
     let b = c .before in
-    let t = b .before .before in
-    let o = t .before .before in
-    let s = o .before .before in
+    let o = b .before .before in
+    let t = o .before in
+    let s = t .before .before .before in
     let window = now (s .args .window) in
     let lane = now (s .args .lane) in
     let yes : played window (s .args .base) (s .args .v) lane ≡ silentFrame window (s .args .base) (opened (s .args .v)) lane =
@@ -51,13 +51,7 @@ returns c =
     )
 
 play-requires : tie.Need-play-requires
-play-requires c κs =
-    let o = c .before .before .before in
-    let s = o .before .before in (
-      subst (WellFormed (length (now (s .args .lane)))) (sym (o .«open» .ensures))
-          (opened-formed (length (now (s .args .lane))) (s .args .v) (s .pre .0)),
-      s .pre .1,
-    )
+play-requires c κs = search needs
 
 same-length-2 : tie.Need-same-length-2
 same-length-2 c = search needs
@@ -67,27 +61,21 @@ unfolding played
 returns-2 c =
     let p = c .before in
     let e = p .before .before in
-    let o = e .before .before in
-    let s = o .before .before in
-    let window = now (s .args .window) in
-    let lane = now (s .args .lane) in
-    let no : played window (s .args .base) (s .args .v) lane ≡ playingFrame window (s .args .base) (opened (s .args .v)) lane =
+    let s = e .before .before .before in
+    let no : played (now (s .args .window)) (s .args .base) (s .args .v) (now (s .args .lane))
+    ≡ playingFrame (now (s .args .window)) (s .args .base) (s .args .v) (now (s .args .lane)) =
     cond-no _ _ (sym (e .before .is-silent .ensures) ∙ e .if1 .left) in
-    let w = o .«open» .ensures in
     let told = p .play .ensures in (
-      told .0 ∙ ap (λ (v : Voice). playingFrame window (s .args .base) v lane .voice) w ∙ sym (ap (λ (f : Frame). f .voice) no),
-      (
-        told .1 .0 ∙ ap (λ (v : Voice). playingFrame window (s .args .base) v lane .lane) w ∙ sym (ap (λ (f : Frame). f .lane) no),
-        told .1 .1 ∙ ap (λ (v : Voice). playingFrame window (s .args .base) v lane .produced) w ∙ sym (ap (λ (f : Frame). f .produced) no),
-      ),
+      told .0 ∙ sym (ap (λ (f : Frame). f .voice) no),
+      (told .1 .0 ∙ sym (ap (λ (f : Frame). f .lane) no), told .1 .1 ∙ sym (ap (λ (f : Frame). f .produced) no)),
     )
 
 pub play-frame-spec : {M : Type 1} → statement M
 play-frame-spec =
     tie.close
     (tie.spec
-    open-requires
     is-silent-requires
+    open-requires
     be-silent-requires
     same-length
     returns

@@ -15,10 +15,11 @@ filters-in-range-requires c κs = search needs
 returns : tie.Need-returns
 returns c = search needs
 
-filter-frame-requires : tie.Need-filter-frame-requires
-filter-frame-requires c κs =
-    let tested = c .before .filters-in-range in
-    (subst T (sym (not-false (tested .result) (c .if1 .left)) ∙ tested .ensures) tt, search needs)
+filtered-requires : tie.Need-filtered-requires
+filtered-requires c κs =
+    let e = c .before in
+    let tested = e .before .filters-in-range in
+    (subst T (sym (not-false (tested .result) (e .if1 .left)) ∙ tested .ensures) tt, search needs)
 
 put-record-requires : tie.Need-put-record-requires
 put-record-requires c κs = search needs
@@ -33,6 +34,6 @@ filter-spec =
     record-of-requires
     filters-in-range-requires
     returns
-    filter-frame-requires
+    filtered-requires
     put-record-requires
     returns-2)
