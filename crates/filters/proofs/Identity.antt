@@ -24,6 +24,7 @@ use Rattle.filters.specs.Filter.{simpleSum, simpleValue, biquadSum, biqu
 use Rattle.filters.specs.Process.{passSimple, passBiquad, pass, passedFrom, filtersAfter}
 use Rattle.filters.specs.Identity.{Default, DefaultsAreIdentities}
 use Rattle.filters.proofs.Passes.{the, first-fits, rest-fit}
+use Rattle.filters.proofs.Marks.{off}
 
 -- ---- a sample scaled up and down again
 
@@ -143,17 +144,8 @@ defaults-are-identities channel f (x ∷ samples) d fit =
 
 -- ---- no filters: no sample and nothing of the filters changes
 
-no-pass : (channel : ℕ) (x : ℤ) → pass channel noFilters x ≡ record { filters = noFilters; value = x }
-unfolding pass passSimple passBiquad
-no-pass channel x = refl
-
 pub no-filters-identity : (channel : ℕ) (samples : List ℤ) → passedFrom channel noFilters samples ≡ samples
-no-filters-identity channel [] = refl
-no-filters-identity channel (x ∷ samples) =
-    (λ i. no-pass channel x i .value ∷ passedFrom (1 - channel) (no-pass channel x i .filters) samples)
-    ∙ ap (λ (l : List ℤ). x ∷ l) (no-filters-identity (1 - channel) samples)
+no-filters-identity channel samples = sym (off channel defaultSimple defaultBiquad samples .0)
 
 pub no-filters-after : (channel : ℕ) (samples : List ℤ) → filtersAfter channel noFilters samples ≡ noFilters
-no-filters-after channel [] = refl
-no-filters-after channel (x ∷ samples) =
-    (λ i. filtersAfter (1 - channel) (no-pass channel x i .filters) samples) ∙ no-filters-after (1 - channel) samples
+no-filters-after channel samples = sym (off channel defaultSimple defaultBiquad samples .1)

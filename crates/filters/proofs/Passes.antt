@@ -1,5 +1,5 @@
 -- What the filters keep to: what comes out of them has 16 bits, and their state stays in range. Assumes nothing.
-use mathlib.Core.Path.{_≡_, refl, sym, ap, subst}
+use mathlib.Core.Path.{_≡_, refl, sym, subst}
 use mathlib.Core.Bool.{Bool, true, false, not, _&&_, cond}
 use mathlib.Core.List.{List, [], _∷_}
 use Prim.Native.Nat.{ℕ, zero, suc, _+_, _-_, _<_, zero-le, suc-le-suc}
@@ -179,10 +179,6 @@ pass-keeps channel f x h t =
     biquad-keeps channel (passSimple channel f x .value) (s .value) (passSimple channel f x .filters) (s .filters)
 
 -- ---- samples in turn
-
-pub length-passed : (channel : ℕ) (f : Filters) (samples : List ℤ) → length (passedFrom channel f samples) ≡ length samples
-length-passed channel f [] = refl
-length-passed channel f (x ∷ samples) = ap suc (length-passed (1 - channel) (pass channel f x .filters) samples)
 
 -- 16 bits hold each sample
 pub first-fits : (x : ℤ) (samples : List ℤ) → AllFit (x ∷ samples) → SFits w16 x

@@ -1,65 +1,42 @@
 // Samples through the filters of a voice, the simple one first.
+use crate::run::run_biquad;
+use crate::run::run_simple;
 use crate::state::Filters;
-use crate::step::biquad_after;
-use crate::step::biquad_value;
-use crate::step::simple_after;
-use crate::step::simple_value;
 ghost use mathlib.Core.Path.{_≡_};
-ghost use Prim.Native.Nat.{_<_};
 ghost use lib.Dec.{T};
-ghost use Rattle.filters.specs.Range.{filtersInRange};
-ghost use Rattle.filters.specs.Process.{passSimple, passBiquad, pass, passedFrom, filtersAfter};
+ghost use Rattle.filters.specs.Range.{simpleInRange, biquadInRange, filtersInRange};
+ghost use Rattle.filters.specs.Filter.{simpleValue, biquadValue};
+ghost use Rattle.filters.specs.Process.{passedFrom, filtersAfter};
+ghost use Rattle.filters.specs.Inner.{simpleNext, biquadNext, allPassed, withSimple, withBiquad, afterAll};
 
-// What a sample comes out as, and the filters after it.
+// What a sample comes out as, and the filters after it: the definitions of `process` speak of it.
 pub struct Passed {
     pub filters: Filters,
     pub value: i16,
 }
 
-fn pass_simple(filters: Filters, channel: usize, x: i16) -> Passed
-    requires { ⌜ T (filtersInRange filters) ⌝ }
-    requires { ⌜ channel < 2 ⌝ }
-    ensures { λ r. ⌜ r ≡ passSimple channel filters x ⌝ }
+// Puts samples through the simple filter, whatever its mark.
+fn by_simple(filters: Filters, samples: &mut [i16]) -> Filters
+    requires { ⌜ T (simpleInRange (filters .simple)) ⌝ }
+    ensures samples { λ _. ⌜ now (samples .exit) ≡ allPassed simpleValue simpleNext 0 (filters .simple) (now (samples .entry)) ⌝ }
+    ensures filters { λ r. ⌜ r ≡ withSimple filters (afterAll simpleNext 0 (filters .simple) (now (samples .entry))) ⌝ }
 {
-    if !filters.has_simple {
-        return Passed { filters, value: x };
-    }
     let f = filters.simple;
-    let value = simple_value(f, channel, x);
     let mut after = filters;
-    after.simple = simple_after(f, channel, value);
-    Passed {
-        filters: after,
-        value,
-    }
+    after.simple = run_simple(f, samples);
+    after
 }
 
-fn pass_biquad(filters: Filters, channel: usize, x: i16) -> Passed
-    requires { ⌜ T (filtersInRange filters) ⌝ }
-    requires { ⌜ channel < 2 ⌝ }
-    ensures { λ r. ⌜ r ≡ passBiquad channel filters x ⌝ }
+// Puts samples through the biquad filter, whatever its mark.
+fn by_biquad(filters: Filters, samples: &mut [i16]) -> Filters
+    requires { ⌜ T (biquadInRange (filters .biquad)) ⌝ }
+    ensures samples { λ _. ⌜ now (samples .exit) ≡ allPassed biquadValue biquadNext 0 (filters .biquad) (now (samples .entry)) ⌝ }
+    ensures filters { λ r. ⌜ r ≡ withBiquad filters (afterAll biquadNext 0 (filters .biquad) (now (samples .entry))) ⌝ }
 {
-    if !filters.has_biquad {
-        return Passed { filters, value: x };
-    }
     let f = filters.biquad;
-    let value = biquad_value(f, channel, x);
     let mut after = filters;
-    after.biquad = biquad_after(f, channel, x, value);
-    Passed {
-        filters: after,
-        value,
-    }
-}
-
-pub fn pass(filters: Filters, channel: usize, x: i16) -> Passed
-    requires { ⌜ T (filtersInRange filters) ⌝ }
-    requires { ⌜ channel < 2 ⌝ }
-    ensures { λ r. ⌜ r ≡ pass channel filters x ⌝ }
-{
-    let s = pass_simple(filters, channel, x);
-    let between = s.filters;
-    pass_biquad(between, channel, s.value)
+    after.biquad = run_biquad(f, samples);
+    after
 }
 
 // Puts samples through the filters in their place, left and right in turn.
@@ -68,17 +45,15 @@ pub fn process(filters: Filters, samples: &mut [i16]) -> Filters
     ensures samples { λ _. ⌜ now (samples .exit) ≡ passedFrom 0 filters (now (samples .entry)) ⌝ }
     ensures filters { λ r. ⌜ r ≡ filtersAfter 0 filters (now (samples .entry)) ⌝ }
 {
-    let mut last = filters;
-    let mut channel = 0;
-    let mut i = 0;
-    while i < samples.len() {
-        let p = pass(last, channel, samples[i]);
-        let y = p.value;
-        samples[i] = y;
-        let next = p.filters;
-        last = next;
-        channel = 1 - channel;
-        i += 1;
+    if !filters.has_simple {
+        if !filters.has_biquad {
+            return filters;
+        }
+        return by_biquad(filters, samples);
     }
-    last
+    let between = by_simple(filters, samples);
+    if !filters.has_biquad {
+        return between;
+    }
+    by_biquad(between, samples)
 }
