@@ -186,6 +186,10 @@ slow-cast (fin s m e) h =
 abbrev pub taken : Bool → ℕ → ℕ
 taken b k = k + cond b 0 1
 
+taken-most : (b : Bool) (k : ℕ) → taken b k ≤ k + 1
+taken-most true k = omega arith
+taken-most false k = omega arith
+
 abbrev Left : Float → ℕ → Type 0
 Left x W =
     (cast-u32 x ≡ W) × Part (sub binary64 x (double (pos W)))
@@ -326,6 +330,7 @@ one-more false k h =
 pub record Steps (f r w : Float) : Type 0 where
   pub is : w ≡ double (pos (cast-u32 (add binary64 f r)))
   pub count : cast-u32 w ≡ cast-u32 (add binary64 f r)
+  pub most : cast-u32 (add binary64 f r) ≤ cast-u32 r + 1
   pub part : Part (sub binary64 (add binary64 f r) w)
   pub kept : at-least-0 (sub binary64 (add binary64 f r) w) ≡ sub binary64 (add binary64 f r) w
 
@@ -336,6 +341,7 @@ pub stepped :
 stepped f r whole one F R h o t = record {
   is = is;
   count = ap (λ (y : Float). cast-u32 y) is ∙ whole-back (cast-u32 (add binary64 f r)) (toUnsigned-lt 32 (add binary64 f r));
+  most = omega (arith, both .0, slow-cast r R .0, taken-most b k);
   part = subst (λ (y : Float). Part (sub binary64 (add binary64 f r) y)) (sym w-is) (both .1);
   kept = subst (λ (y : Float). at-least-0 (sub binary64 (add binary64 f r) y) ≡ sub binary64 (add binary64 f r) y) (sym w-is) (both .2);
 }

@@ -5,9 +5,9 @@ use numbers::casts::at_least_0;
 use numbers::casts::whole_u32;
 use numbers::sizes::FRAME_SAMPLES;
 ghost use mathlib.Core.Path.{_≡_};
-ghost use Prim.Native.Nat.{_≤_, _<_};
+ghost use Prim.Native.Nat.{_+_, _*_, _≤_, _<_};
 ghost use lib.ListN.{length};
-ghost use mathlib.Core.Bool.{cond};
+ghost use mathlib.Core.Bool.{true, cond};
 ghost use lib.IntN.{pos};
 ghost use lib.Ieee.{lt};
 ghost use Rattle.numbers.specs.Casts.{cast-u32, double};
@@ -109,8 +109,8 @@ fn is_steady(fraction: f64, rate: f64) -> bool
     false
 }
 
-// The same from a fraction below 1 at a rate below 2^31: a step takes the whole part of the rate, or one more. Were what is left not
-// below 1, it stops.
+// The same from a fraction below 1 at a rate below 2^31: a step takes the whole part of the rate, or one more. Even at one more each
+// time the entry has two left, so its end needs no test. Were what is left not below 1, it stops.
 fn walk_steady(
     size: u32,
     rate: f64,
@@ -126,11 +126,11 @@ fn walk_steady(
     requires { ⌜ length (now fractions) ≡ «FRAME_SAMPLES» ⌝ }
     requires { ⌜ Part (c .fraction) ⌝ }
     requires { ⌜ Slow rate ⌝ }
+    requires { ⌜ room * (cast-u32 rate + 1) + 1 < c .remaining ⌝ }
     ensures { λ r. ⌜ Stretched rate c room r ⌝ }
     ensures { λ r. ⌜ Walked rate c size (now (places .exit)) (now (fractions .exit)) (r .count) ⌝ }
 {
     let end = size as usize;
-    let last = end - 1;
     let mut at = end - (c.remaining as usize);
     let mut fraction = c.fraction;
     let mut k = 0;
@@ -143,14 +143,10 @@ fn walk_steady(
         if !(left < 1.0) {
             break;
         }
-        let next = at + counted(w);
-        if next >= last {
-            break;
-        }
         places[k] = at as u32;
         fractions[k] = fraction;
         fraction = left;
-        at = next;
+        at += counted(w);
         k += 1;
     }
     Reached {
@@ -160,6 +156,18 @@ fn walk_steady(
         },
         count: k,
     }
+}
+
+// Whether the quick way goes: not where the entry might end within the room.
+fn is_quick(c: Cursor, rate: f64, room: usize) -> bool
+    requires { ⌜ room ≤ «FRAME_SAMPLES» ⌝ }
+    ensures { λ r. ⌜ (r ≡ true → Part (c .fraction) × Slow rate × (room * (cast-u32 rate + 1) + 1 < c .remaining)) ⌝ }
+{
+    if is_steady(c.fraction, rate) {
+        let most = whole_part(rate) + 1;
+        return room * most + 1 < c.remaining as usize;
+    }
+    false
 }
 
 // The walk at any rate, the quick way where it goes.
@@ -179,7 +187,7 @@ pub fn walk(
     ensures { λ r. ⌜ Stretched rate c room r ⌝ }
     ensures { λ r. ⌜ Walked rate c size (now (places .exit)) (now (fractions .exit)) (r .count) ⌝ }
 {
-    if is_steady(c.fraction, rate) {
+    if is_quick(c, rate, room) {
         return walk_steady(size, rate, c, room, places, fractions);
     }
     walk_any(size, rate, c, room, places, fractions)

@@ -1,20 +1,18 @@
 -- `steps::stretch::walk` meets its contract: either way has it. Assumes nothing.
-use mathlib.Core.Path.{sym, _∙_}
 use borrow.Author.Needs.{needs}
-use Rattle.steps.proofs.Steady.{steady-says}
 use Rattle.steps.proofs.stretch.walk.Statement.{statement}
 use Rattle.steps.proofs.stretch.walk.Tie as tie
 
-is-steady-requires : tie.Need-is-steady-requires
-is-steady-requires c κs = search needs
+is-quick-requires : tie.Need-is-quick-requires
+is-quick-requires c κs = search needs
 
 walk-steady-requires : tie.Need-walk-steady-requires
 walk-steady-requires c κs =
     let t = c .before .before in
     let s = t .before .before in
     let p = s .pre in
-    let steady = steady-says (s .args .c .fraction) (s .args .rate) (sym (t .before .is-steady .ensures) ∙ t .if1 .taken) in
-    (p .0, (p .1 .0, (p .1 .1 .0, (p .1 .1 .1 .0, (p .1 .1 .1 .1, steady)))))
+    let q = t .before .is-quick .ensures (t .if1 .taken) in
+    (p .0, (p .1 .0, (p .1 .1 .0, (p .1 .1 .1 .0, (p .1 .1 .1 .1, (q .0, (q .1, q .2)))))))
 
 returns : tie.Need-returns
 returns c = search needs
@@ -28,4 +26,4 @@ returns-2 c = search needs
 pub walk-spec : {M : Type 1} → statement M
 walk-spec =
     tie.close
-    (tie.spec is-steady-requires walk-steady-requires returns walk-any-requires returns-2)
+    (tie.spec is-quick-requires walk-steady-requires returns walk-any-requires returns-2)
