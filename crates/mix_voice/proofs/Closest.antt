@@ -111,17 +111,17 @@ module _ (Q : ℕ) (Q2 : 1 < Q) where
     cut-below = omega (arith, below-ge, below-le)
 
     -- a quarter put on the negative
-    module _ (few : G ≤ 4194304 * Q) where
+    module _ (few : G ≤ 8388604 * Q) where
       abbrev above : ℕ
       above = 25165825 * Q - G
 
-      pub a-few : a ≤ 1048576
+      pub a-few : a ≤ 2097151
       a-few = le-of-mul-le-mul-right (le-trans most (le-of-eq full)) (omega arith)
         where
-          most : a * (4 * Q) ≤ 4194304 * Q
+          most : a * (4 * Q) ≤ 8388604 * Q
           most = omega (arith, whole)
 
-          full : 4194304 * Q ≡ 1048576 * (4 * Q)
+          full : 8388604 * Q ≡ 2097151 * (4 * Q)
           full = omega arith
 
       back : (k : ℕ) → 2 * a ≤ k → (k - 2 * a) * d + a * (4 * Q) ≡ k * d

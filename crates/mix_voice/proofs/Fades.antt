@@ -1,20 +1,22 @@
 -- The parts in a mix that may fade, sample by sample, and what each mix gets of a voice's gains and marks. Assumes nothing.
-use mathlib.Core.Path.{_≡_, sym, ap, _∙_, subst}
-use mathlib.Core.Bool.{Bool, false, cond}
+use mathlib.Core.Path.{_≡_, refl, sym, ap, _∙_, subst}
+use mathlib.Core.Bool.{Bool, true, false, _||_, cond}
 use mathlib.Core.List.{List}
 use mathlib.Core.Logic.{⊎-elim}
 use Prim.Native.Nat.{ℕ, _+_, _*_, _/_, _%_, _≤_, _<_}
 use native.Mathlib.Omega.{arith}
 use lib.Dec.{eqb}
-use lib.Ieee.{Float}
+use lib.Ieee.{Float, ne}
 use lib.IntN.{ℤ, pos}
 use lib.ListN.{length, getD}
 use Rattle.lists.specs.Tabulate.{tabulate}
-use Rattle.lists.proofs.Bools.{cond-no}
+use Rattle.lists.proofs.Bools.{cond-no, or-neither}
 use Rattle.lists.proofs.Tabulate.{length-tabulate, getD-tabulate, tabulated}
 use Rattle.lists.proofs.Walk.{below-or}
+use Rattle.mixing.specs.Gain.{fading}
 use Rattle.mix_voice.specs.declared.sums.Gains.{Gains}
-use Rattle.mix_voice.specs.Mixed.{sampleAt, partOf, rampedAt, summed, ramped, Unmarked, partAt, voiced, gainsOf, pick, eitherAt}
+use Rattle.mix_voice.specs.Mixed.{sampleAt, partOf, rampedAt, summed, ramped, Unmarked, partAt, voiced, gainsOf, pick}
+use Rattle.mix_voice.specs.Mixed.{steadyAt, eitherAt, changing}
 use Rattle.mix_voice.specs.Mixed.{mixed, four}
 use Rattle.mix_voice.proofs.Turns.{Mixing, mix-turn, row-is, three-mixes}
 
@@ -40,6 +42,38 @@ module _ (on : Bool) (from to : Gains) (frame : List ℤ) where
         (ap (partOf on (from .g1) (to .g1) i) q ∙ either-at (m * 640 + i + 160) 1 i (i * 2 + 1) (omega arith) (omega arith) (omega arith))
         (ap (partOf on (from .g2) (to .g2) i) p ∙ either-at (m * 640 + i + 320) 2 i (i * 2) (omega arith) (omega arith) (omega arith))
         (ap (partOf on (from .g3) (to .g3) i) q ∙ either-at (m * 640 + i + 480) 3 i (i * 2 + 1) (omega arith) (omega arith) (omega arith)))
+
+-- ---- a mix with a ramp of which no gain changes is steady
+module _ (from to : Gains) where
+  pick-level : (c : ℕ) → (ne (from .g0) (to .g0) || (ne (from .g1) (to .g1) || (ne (from .g2) (to .g2) || ne (from .g3) (to .g3)))) ≡ false
+      → ne (pick from c) (pick to c) ≡ false
+  pick-level c h =
+      let a = or-neither (ne (from .g0) (to .g0)) (ne (from .g1) (to .g1) || (ne (from .g2) (to .g2) || ne (from .g3) (to .g3))) h in
+      let b = or-neither (ne (from .g1) (to .g1)) (ne (from .g2) (to .g2) || ne (from .g3) (to .g3)) (a .1) in
+      let d = or-neither (ne (from .g2) (to .g2)) (ne (from .g3) (to .g3)) (b .1) in
+      go (eqb c 0) (eqb c 1) (eqb c 2) (a .0) (b .0) (d .0) (d .1)
+    where
+      go :
+          (x y z : Bool) → ne (from .g0) (to .g0) ≡ false → ne (from .g1) (to .g1) ≡ false → ne (from .g2) (to .g2) ≡ false
+          → ne (from .g3) (to .g3) ≡ false
+          → ne (cond x (from .g0) (cond y (from .g1) (cond z (from .g2) (from .g3))))
+          (cond x (to .g0) (cond y (to .g1) (cond z (to .g2) (to .g3)))) ≡ false
+      go true y z e0 e1 e2 e3 = e0
+      go false true z e0 e1 e2 e3 = e1
+      go false false true e0 e1 e2 e3 = e2
+      go false false false e0 e1 e2 e3 = e3
+
+  pub settled : (on : Bool) (frame : List ℤ) → changing on from to ≡ false → (k : ℕ) → steadyAt to frame k ≡ eitherAt on from to frame k
+  unfolding changing
+  settled false frame h k = refl
+  settled true frame h k =
+      sym (cond-no (fading (pick from (k % 640 / 160)) (pick to (k % 640 / 160)) (k % 160) (sampleAt frame k)) (steadyAt to frame k)
+      (pick-level (k % 640 / 160) h))
+
+  pub has-ramp : (on : Bool) → changing on from to ≡ true → true ≡ on
+  unfolding changing
+  has-ramp true h = refl
+  has-ramp false h = sym h
 
 -- ---- all mixes
 pub length-mixed : (m : ℕ) (part : ℕ → ℤ) (l : List ℤ) → length (mixed m part l) ≡ 1920

@@ -2,6 +2,9 @@ pub mod Closest
 pub mod Halved
 pub mod Quarter
 pub mod Product
+pub mod Own
+pub mod Way
 pub mod Turns
 pub mod Silence
+pub mod Stays
 pub mod Fades

@@ -1,4 +1,4 @@
--- A number of at most 2 ^ 20 in size, a quarter nearer to zero, in halves: cut to a whole number that is the number's whole part with its
+-- A number below 2 ^ 21 in size, a quarter nearer to zero, in halves: cut to a whole number that is the number's whole part with its
 -- sign. Assumes nothing.
 use mathlib.Core.Path.{_≡_, refl, sym, ap, _∙_, subst}
 use mathlib.Core.Bool.{Bool, true, false, not, _&&_, cond}
@@ -35,7 +35,7 @@ middle = fin false 3 (pos 21)
 Q-two : 1 < Q
 Q-two = lit< tt
 
-Q-pos : 0 < Q
+pub Q-pos : 0 < Q
 Q-pos = lit< tt
 
 -- a quarter or less, rounded, is so
@@ -49,16 +49,16 @@ small-round s w h =
 pub record Less (b : Bool) (y : Float) (G : ℕ) : Type 0 where
   pub g : ℕ
   pub same : g / (4 * Q) ≡ G / (4 * Q)
-  pub few : g ≤ 4194304 * Q
+  pub few : g ≤ 8388604 * Q
   pub at : ((Q ≤ g) × HasValue y b (g - Q) D) ⊎ ((g ≤ Q) × HasValue y (not b) (Q - g) D)
 
-no-whole : (P g : ℕ) → 0 < P → g ≤ P → g / (4 * P) ≡ 0
+pub no-whole : (P g : ℕ) → 0 < P → g ≤ P → g / (4 * P) ≡ 0
 no-whole P g h k = div-eq-of-lt less
   where
     less : g < 4 * P
     less = omega arith
 
-within-4 : (P g : ℕ) → g ≤ P → g ≤ 4194304 * P
+pub within-4 : (P g : ℕ) → g ≤ P → g ≤ 8388604 * P
 within-4 P g h = omega arith
 
 from-small : (b : Bool) (y : Float) (G : ℕ) → G ≤ Q → (W : ℕ) × (W ≤ Q) × HasValue y (not b) W D → Less b y G
@@ -72,7 +72,7 @@ from-small b y G h k = record {
     twice : (P w : ℕ) → w ≤ P → P - (P - w) ≡ w
     twice P w h = omega arith
 
-module _ (n d : ℕ) (d0 : 0 < d) (most : n ≤ 1048576 * d) where
+module _ (n d : ℕ) (d0 : 0 < d) (most : n ≤ 2097151 * d) where
   abbrev pub G : ℕ
   G = grid binary32 n d
 
@@ -91,8 +91,8 @@ module _ (n d : ℕ) (d0 : 0 < d) (most : n ≤ 1048576 * d) where
   j-le : j ≤ 147
   j-le = drops binary32 n d 147 d0 small
 
-  G-le : G ≤ 4194304 * Q
-  G-le = cell-le binary32 n d 147 d0 small 4194304 (times-le n 1048576 d (2 ^ 149) most)
+  G-le : G ≤ 8388604 * Q
+  G-le = cell-le binary32 n d 147 d0 small 8388604 (times-le n 2097151 d (2 ^ 149) most)
 
   pub x-value : (s : Bool) → HasValue (round binary32 s n d) s G D
   x-value s = round-value binary32 s n d (lt-of-le-of-lt G-le (lit< tt))
@@ -179,13 +179,13 @@ pub record Seen (b : Bool) (t : Float) (fl : ℕ) : Type 0 where
   pub least : 8388608 ≤ K
   pub most : K < 16777216
   pub cut : Cutting b K fl
-  pub few : fl ≤ 1048576
+  pub few : fl ≤ 2097151
 
-bounds : (a K : ℕ) → a ≤ 1048576 → 12582911 - 2 * a ≤ K → K ≤ 12582913 + 2 * a → (K < 16777216) × (8388608 ≤ K)
+bounds : (a K : ℕ) → a ≤ 2097151 → 12582911 - 2 * a ≤ K → K ≤ 12582913 + 2 * a → (K < 16777216) × (8388608 ≤ K)
 bounds a K h k l = (omega arith, omega arith)
 
 seen-of :
-    (b : Bool) (t : Float) (fl N : ℕ) → 16777216 * Q ≤ N → N < 33554432 * Q → t ≡ round binary32 false N D → fl ≤ 1048576
+    (b : Bool) (t : Float) (fl N : ℕ) → 16777216 * Q ≤ N → N < 33554432 * Q → t ≡ round binary32 false N D → fl ≤ 2097151
     → 12582911 - 2 * fl ≤ closest N (2 * Q) → closest N (2 * Q) ≤ 12582913 + 2 * fl
     → Cutting b (closest N (2 * Q)) fl → Seen b t fl
 seen-of b t fl N low high e few ge le cut =
@@ -200,7 +200,7 @@ seen-of b t fl N low high e few ge le cut =
       few = few;
     }
 
-seen-below : (t : Float) (g : ℕ) → g ≤ 4194304 * Q → t ≡ round binary32 false (25165823 * Q + g) D → Seen false t (g / (4 * Q))
+seen-below : (t : Float) (g : ℕ) → g ≤ 8388604 * Q → t ≡ round binary32 false (25165823 * Q + g) D → Seen false t (g / (4 * Q))
 seen-below t g h e =
     let f = a-few Q Q-two g h in
     let ge = below-ge Q Q-two g in
@@ -212,7 +212,7 @@ seen-below t g h e =
     low : (P g : ℕ) → 16777216 * P ≤ 25165823 * P + g
     low P g = omega arith
 
-    high : (P g : ℕ) → 0 < P → g ≤ 4194304 * P → 25165823 * P + g < 33554432 * P
+    high : (P g : ℕ) → 0 < P → g ≤ 8388604 * P → 25165823 * P + g < 33554432 * P
     high P g h k = omega arith
 
     weaker : (a K : ℕ) → 12582912 + 2 * a ≤ K → 12582911 - 2 * a ≤ K
@@ -221,7 +221,7 @@ seen-below t g h e =
     least : (a K : ℕ) → 12582912 + 2 * a ≤ K → 12582912 ≤ K
     least a K h = omega arith
 
-seen-above : (t : Float) (g : ℕ) → g ≤ 4194304 * Q → t ≡ round binary32 false (25165825 * Q - g) D → Seen true t (g / (4 * Q))
+seen-above : (t : Float) (g : ℕ) → g ≤ 8388604 * Q → t ≡ round binary32 false (25165825 * Q - g) D → Seen true t (g / (4 * Q))
 seen-above t g h e =
     let f = a-few Q Q-two g h in
     let ge = above-ge Q Q-two g h in
@@ -230,7 +230,7 @@ seen-above t g h e =
     (weaker (g / (4 * Q)) (closest (25165825 * Q - g) (2 * Q)) le)
     (most (g / (4 * Q)) (closest (25165825 * Q - g) (2 * Q)) le, cut-above Q Q-two g h)
   where
-    low : (P g : ℕ) → g ≤ 4194304 * P → 16777216 * P ≤ 25165825 * P - g
+    low : (P g : ℕ) → g ≤ 8388604 * P → 16777216 * P ≤ 25165825 * P - g
     low P g h = omega arith
 
     high : (P g : ℕ) → 0 < P → 25165825 * P - g < 33554432 * P
@@ -286,5 +286,5 @@ seen true y G l =
     down : (P g : ℕ) → P ≤ g → 25165824 * P - (g - P) ≡ 25165825 * P - g
     down P g h = omega arith
 
-    less : (P g : ℕ) → 0 < P → g ≤ 4194304 * P → g - P < 25165824 * P
+    less : (P g : ℕ) → 0 < P → g ≤ 8388604 * P → g - P < 25165824 * P
     less P g h k = omega arith

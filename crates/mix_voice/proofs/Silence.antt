@@ -15,18 +15,20 @@ use Rattle.numbers.specs.Casts.{cast-i32, single}
 use Rattle.numbers.specs.Literals.{+0}
 use Rattle.numbers.specs.Wrap.{wrap32}
 use Rattle.numbers.proofs.Ranges.{wrap-self}
-use Rattle.numbers.proofs.Reach.{zero-reach, single-reach, mul-reach, cast-reach, only-zero}
+use Rattle.numbers.proofs.Reach.{Reach, zero-reach, single-reach, mul-reach, cast-reach, only-zero}
 use Rattle.mixing.specs.Gain.{at-gain}
 use Rattle.mix_voice.specs.declared.sums.Gains.{Gains}
 use Rattle.mix_voice.specs.Mixed.{sampleAt, summed, silent, pick, steadyAt, mixed}
 
-gain-silent : (g : Float) (v : ℤ) → eq g +0 ≡ true → mag v < 32768 → at-gain g v ≡ pos 0
+pub still : (g : Float) (v : ℤ) → Reach g 0 → mag v < 32768 → at-gain g v ≡ pos 0
 unfolding at-gain
-gain-silent g v z h =
+still g v z h =
     let few = le-trans (natAbs-le v h) (lit≤ tt) in
     only-zero (cast-i32 (mul binary32 g (single v)))
-    (cast-reach 31 (mul binary32 g (single v)) 0
-    (mul-reach binary32 g (single v) 0 (2 ^ 31) (zero-reach g z) (single-reach v few) (lit< tt)))
+    (cast-reach 31 (mul binary32 g (single v)) 0 (mul-reach binary32 g (single v) 0 (2 ^ 31) z (single-reach v few) (lit< tt)))
+
+gain-silent : (g : Float) (v : ℤ) → eq g +0 ≡ true → mag v < 32768 → at-gain g v ≡ pos 0
+gain-silent g v z h = still g v (zero-reach g z) h
 
 pick-silent : (g : Gains) (c : ℕ) → silent g ≡ true → eq (pick g c) +0 ≡ true
 unfolding silent

@@ -1,7 +1,7 @@
 -- What a voice's frame adds to the mixes, which are "1,920 signed 32-bit numbers (by mix, then channel, then sample)".
 -- Assumes nothing: these are definitions.
 use mathlib.Core.Path.{_≡_}
-use mathlib.Core.Bool.{Bool, false, _&&_, cond}
+use mathlib.Core.Bool.{Bool, false, _&&_, _||_, cond}
 use mathlib.Core.List.{List}
 use Prim.Native.Nat.{ℕ, _+_, _*_, _/_, _%_}
 use lib.Dec.{eqb}
@@ -89,6 +89,11 @@ steadyAt g frame k = at-gain (pick g (channelOf k)) (sampleAt frame k)
 
 abbrev pub eitherAt : Bool → Gains → Gains → List ℤ → ℕ → ℤ
 eitherAt on from to frame k = partOf on (pick from (channelOf k)) (pick to (channelOf k)) (placeOf k) (sampleAt frame k)
+
+-- there is a ramp, and the gain of some channel differs
+unfoldable pub changing : Bool → Gains → Gains → Bool
+changing on from to =
+    on && (ne (from .g0) (to .g0) || (ne (from .g1) (to .g1) || (ne (from .g2) (to .g2) || ne (from .g3) (to .g3))))
 
 -- mix m with a part added to each value
 unfoldable pub mixed : ℕ → (ℕ → ℤ) → List ℤ → List ℤ

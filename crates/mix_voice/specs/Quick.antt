@@ -1,7 +1,8 @@
 -- What the quick way to a sample's part goes through. Assumes nothing: these are definitions.
 use mathlib.Core.Bool.{Bool, true, false, _&&_, cond}
+use Prim.Native.Nat.{ℕ, _*_, _≤_}
 use lib.IntN.{ℤ, pos, negsuc}
-use lib.Ieee.{Float, fin, lt, le}
+use lib.Ieee.{Float, nan, inf, fin, up, down, neg, lt, le}
 use Rattle.numbers.specs.Literals.{+0}
 use Rattle.numbers.specs.Held.{at-most, at-least}
 use Rattle.mix_voice.specs.declared.sums.Gains.{Gains}
@@ -25,10 +26,28 @@ abbrev pub +¼ : Float
 abbrev pub -¼ : Float
 -¼ = fin true 1 (negsuc 1)
 
--- a sample held to them: a quarter with its sign, or 0
+-- a number held to them: a quarter with its sign, or the number itself (of samples only 0)
 unfoldable pub quarterOf : Float → Float
 quarterOf s = at-least -¼ (at-most +¼ s)
 
--- the bits of 2 ^ 22 + 2 ^ 21, one less where the sample is negative
+-- the bits of 2 ^ 22 + 2 ^ 21, one less where the number is negative
 unfoldable pub baseOf : Float → ℤ
 baseOf q = cond (lt q +0) (pos 0x4ABF_FFFF) (pos 0x4AC0_0000)
+
+-- the largest size of a gain to fade from or to the quick way, 16
+abbrev pub «FADING_GAIN» : Float
+«FADING_GAIN» = fin false 1 (pos 4)
+
+-- a gain of a size of at most `most`
+unfoldable pub within : Float → Float → Bool
+within most g = le (neg most) g && le g most
+
+-- four of them
+unfoldable pub allWithin : Float → Gains → Bool
+allWithin most g = within most (g .g0) && (within most (g .g1) && (within most (g .g2) && within most (g .g3)))
+
+-- a number from -M to M
+abbrev pub Around : ℕ → Float → Type 0
+Around M nan = ⊥
+Around M (inf s) = ⊥
+Around M (fin s m e) = m * up e ≤ M * down e

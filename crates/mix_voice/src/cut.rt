@@ -11,7 +11,7 @@ ghost use Rattle.mixing.specs.Gain.{at-gain};
 ghost use Rattle.mix_voice.specs.Quick.{quick, quarterOf, baseOf};
 
 // The largest gain of the quick way. (The source has the name, and another number: its cast goes further.)
-const QUICK_GAIN: f32 = 32.0;
+pub const QUICK_GAIN: f32 = 32.0;
 
 // 2^22 + 2^21, its bits, and those one below.
 const MIDDLE: f32 = 6291456.0;
@@ -27,14 +27,14 @@ pub fn is_quick(gain: f32) -> bool
     gain >= 0.0 && gain <= QUICK_GAIN
 }
 
-// A quarter with the sample's sign, or 0.
+// A quarter with the number's sign, or the number where it is smaller.
 pub fn quarter_of(s: f32) -> f32
     ensures { λ r. ⌜ r ≡ quarterOf s ⌝ }
 {
     at_least(at_most(s, 0.25), -0.25)
 }
 
-// What the bits are counted from: one less where the sample is negative.
+// What the bits are counted from: one less where the number is negative.
 pub fn base_of(quarter: f32) -> i32
     ensures { λ r. ⌜ r ≡ baseOf quarter ⌝ }
 {

@@ -1,7 +1,11 @@
 // A voice's frame into the mixes, each of which may fade from its old gains to its new ones.
+use crate::cut::QUICK_GAIN;
 use crate::quick::all_quick;
 use crate::quick::quick_all;
 use crate::quick::quick_mix;
+use crate::signs::all_within;
+use crate::signs::fading_mix;
+use crate::signs::signed_mix;
 use crate::slow::slow_mix;
 use crate::sums::Gains;
 use crate::sums::gains_of;
@@ -14,7 +18,10 @@ ghost use Prim.Native.Nat.{ℕ, _<_};
 ghost use lib.ListN.{length};
 ghost use Rattle.numbers.specs.Sizes.{FRAME, MIXES, GAINS};
 ghost use Rattle.mix_voice.specs.Quick.{allQuick};
-ghost use Rattle.mix_voice.specs.Mixed.{gainsOf, steadyAt, eitherAt, mixed, Unmarked, ramped};
+ghost use Rattle.mix_voice.specs.Mixed.{gainsOf, steadyAt, eitherAt, changing, mixed, Unmarked, ramped};
+
+// The largest size of a gain to fade from or to the quick way: on the way it is at most three times that.
+const FADING_GAIN: f32 = 16.0;
 
 // Adds the frame to mix m at steady gains: nothing at gains of 0.0.
 fn steady_mix(mixes: &mut [i32], m: usize, frame: &[i16], g: Gains)
@@ -32,18 +39,57 @@ fn steady_mix(mixes: &mut [i32], m: usize, frame: &[i16], g: Gains)
         quick_mix(mixes, m, frame, g);
         return;
     }
+    if all_within(g, QUICK_GAIN) {
+        signed_mix(mixes, m, frame, g);
+        return;
+    }
     slow_mix(false, mixes, m, frame, g, g);
 }
 
-// Adds the frame to mix m, which fades where `on` says so.
+// Adds the frame to mix m, which fades.
+fn faded_mix(mixes: &mut [i32], m: usize, frame: &[i16], from: Gains, to: Gains)
+    requires { ⌜ length (now mixes) ≡ MIXES ⌝ }
+    requires { ⌜ length (now frame) ≡ FRAME ⌝ }
+    requires { ⌜ m < 3 ⌝ }
+    ensures { λ _. ⌜ now (mixes .exit) ≡ mixed m (eitherAt true from to (now (frame .entry))) (now (mixes .entry)) ⌝ }
+{
+    if all_within(from, FADING_GAIN) {
+        if all_within(to, FADING_GAIN) {
+            fading_mix(mixes, m, frame, from, to);
+            return;
+        }
+    }
+    slow_mix(true, mixes, m, frame, from, to);
+}
+
+// Whether a mix fades: it has a ramp where `on` says so, and fades if some gain is to change.
+fn changes(on: bool, from: Gains, to: Gains) -> bool
+    ensures { λ r. ⌜ r ≡ changing on from to ⌝ }
+{
+    if !on {
+        return false;
+    }
+    if from.g0 != to.g0 {
+        return true;
+    }
+    if from.g1 != to.g1 {
+        return true;
+    }
+    if from.g2 != to.g2 {
+        return true;
+    }
+    from.g3 != to.g3
+}
+
+// Adds the frame to mix m, which has a ramp where `on` says so.
 fn ramped_mix(on: bool, mixes: &mut [i32], m: usize, frame: &[i16], from: Gains, to: Gains)
     requires { ⌜ length (now mixes) ≡ MIXES ⌝ }
     requires { ⌜ length (now frame) ≡ FRAME ⌝ }
     requires { ⌜ m < 3 ⌝ }
     ensures { λ _. ⌜ now (mixes .exit) ≡ mixed m (eitherAt on from to (now (frame .entry))) (now (mixes .entry)) ⌝ }
 {
-    if on {
-        slow_mix(true, mixes, m, frame, from, to);
+    if changes(on, from, to) {
+        faded_mix(mixes, m, frame, from, to);
         return;
     }
     steady_mix(mixes, m, frame, to);
