@@ -14,7 +14,8 @@ use Rattle.layout.specs.declared.Layout.{Layout}
 use Rattle.layout.proofs.Places as places
 use Rattle.mixer_state.specs.declared.Mixer.{Mixer}
 use Rattle.numbers.specs.Sizes.{MIXES}
-use Rattle.mixer.specs.Tick.{Roomy, numberOf, Outcome, refusal, served, left, answered, after, called, ticked}
+use Rattle.mixer.specs.Inner.{Roomy}
+use Rattle.mixer.specs.Tick.{numberOf, Outcome, refusal, served, left, answered, after, called, ticked}
 
 -- ---- the number
 

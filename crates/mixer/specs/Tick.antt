@@ -1,5 +1,5 @@
 -- The mixer's call: what it gives back and what it leaves in the two regions, refused or not. Assumes nothing: these are definitions.
-use Prim.Native.Nat.{ℕ, zero, suc, _+_, _≤_}
+use Prim.Native.Nat.{ℕ, zero, suc}
 use mathlib.Core.Bool.{not, cond}
 use mathlib.Core.List.{List}
 use lib.Dec.{eqb, ltb}
@@ -9,7 +9,6 @@ use Rattle.lists.specs.Splice.{part}
 use Rattle.layout.specs.Places.{layoutNumber}
 use Rattle.layout.specs.declared.Layout.{Layout}
 use Rattle.numbers.specs.Sizes.{MIXES}
-use Rattle.mix_bytes.specs.Sizes.{finalBytes, intermediateBytes}
 use Rattle.mixer_state.specs.Configuration.{configurationBytes, configured, cleared}
 use Rattle.mixer_frame.specs.Frame.{silence, frameOf, writeAfter}
 use Rattle.mixer_state.specs.declared.Mixer.{Mixer}
@@ -20,12 +19,6 @@ use Rattle.mixer.specs.declared.tick.Mixed.{Mixed}
 abbrev pub numberOf : ℕ → ℕ → Layout → ℕ → ℕ → ℕ
 numberOf first second l mixes which =
     cond (eqb (layoutNumber first second l) 0) (cond (not (eqb mixes MIXES)) 6 (cond (ltb 1 which) 8 0)) (layoutNumber first second l)
-
--- the places that the mixer uses lie within regions of so many bytes
-pub record Roomy (l : Layout) (n : ℕ) : Type 0 where
-  pub configuration : l .«mixer_configuration» + configurationBytes ≤ n
-  pub final : l .«final_samples» + finalBytes ≤ n
-  pub intermediate : l .«intermediate_samples» + intermediateBytes ≤ n
 
 -- ---- the state in force, by the region that is read
 

@@ -11,7 +11,8 @@ use numbers::sizes::MIXES;
 ghost use mathlib.Core.Path.{_≡_};
 ghost use lib.ListN.{length};
 ghost use Rattle.numbers.specs.Sizes.{MIXES};
-ghost use Rattle.mixer.specs.Tick.{Roomy, numberOf, refusal, served, left, answered, after, ticked};
+ghost use Rattle.mixer.specs.Inner.{Roomy};
+ghost use Rattle.mixer.specs.Tick.{numberOf, refusal, served, left, answered, after, ticked};
 
 // What a call gives back: 0, or the number of its refusal; the state; and 160 pairs of final samples.
 pub struct Mixed {
