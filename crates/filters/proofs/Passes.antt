@@ -2,11 +2,11 @@
 use mathlib.Core.Path.{_≡_, refl, sym, subst}
 use mathlib.Core.Bool.{Bool, true, false, not, _&&_, cond}
 use mathlib.Core.List.{List, [], _∷_}
-use Prim.Native.Nat.{ℕ, zero, suc, _+_, _-_, _<_, zero-le, suc-le-suc}
+use Prim.Native.Nat.{ℕ, zero, suc, _+_, _-_, zero-le, suc-le-suc}
 use native.Mathlib.Nat.{le-of-suc-le-suc, not-suc-le-zero}
 use lib.Dec.{T}
 use lib.IntN.{ℤ, pos}
-use lib.ListN.{length, getD, set}
+use lib.ListN.{getD, set}
 use lib.Signed.{shrZ}
 use mir.Syntax.{w16}
 use mir.Val.{SFits}

@@ -29,7 +29,7 @@ use Rattle.track.specs.Laid.{laid, Turned}
 use Rattle.track.proofs.Onward.{after-suc}
 use Rattle.play.specs.Play.{Midst, entering, at, frameOf, opened, sounded, begunNext, next, onward}
 use Rattle.play.proofs.Laying.{frame-none, heard, heard-long, laid-frame}
-use Rattle.play.proofs.Onwards.{next-plays, next-begins, next-still, onward-none, onward-still, onward-add, along, onward-turned}
+use Rattle.play.proofs.Onwards.{next-plays, next-begins, next-still, onward-none, onward-still, onward-add, onward-turned}
 
 -- a record is as well-formed when its frame begins
 pub opened-formed : (L : ℕ) (v : Voice) → WellFormed L v → WellFormed L (opened v)

@@ -1,22 +1,16 @@
 -- A frame goes on a sample at a time: by what `next` does, and that a turn of an entry is so many samples of the definition. Assumes
 -- nothing.
-use mathlib.Core.Path.{_≡_, refl, sym, ap, _∙_, subst}
-use mathlib.Core.Bool.{true, false, cond}
-use mathlib.Core.List.{List, [], _∷_, _++_, append-assoc, append-nil}
-use Prim.Native.Nat.{ℕ, zero, suc, _+_, _≤_, _<_}
+use mathlib.Core.Path.{_≡_, refl, sym, ap, _∙_}
+use mathlib.Core.Bool.{true, false}
+use mathlib.Core.List.{List, _++_, append-assoc, append-nil}
+use Prim.Native.Nat.{ℕ, zero, suc, _+_, _<_}
 use native.Mathlib.Omega.{arith}
-use lib.Dec.{eqb}
-use lib.IntN.{ℤ}
-use lib.ListN.{length}
 use borrow.Author.Tests.{eq-eqb, ne-eqb}
 use Rattle.lists.proofs.Bools.{cond-yes, cond-no}
-use Rattle.steps.specs.declared.step.Cursor.{Cursor}
 use Rattle.steps.specs.declared.stretch.Reached.{Reached}
 use Rattle.steps.specs.Stretch.{after}
-use Rattle.voice.specs.declared.record.Voice.{Voice}
 use Rattle.samples.specs.declared.Sample.{Sample}
 use Rattle.dequeue.specs.Dequeue.{dequeued}
-use Rattle.track.specs.declared.Track.{Track}
 use Rattle.track.specs.Track.{trackOf, cursorOf}
 use Rattle.track.specs.Laid.{Turned}
 use Rattle.play.specs.Play.{Midst, at, sounded, begunNext, next, onward}

@@ -1,13 +1,11 @@
 -- What a voice adds to the mixes, by whether it is enabled: the parts of mix_voice, or nothing. By what stands at an index. Assumes nothing.
 use mathlib.Core.Path.{_≡_, sym, ap, _∙_}
-use mathlib.Core.Bool.{Bool, true, false, cond}
+use mathlib.Core.Bool.{true, false, cond}
 use mathlib.Core.List.{List}
 use Prim.Native.Nat.{ℕ, _<_}
 use lib.IntN.{ℤ, pos, +ℤ-idr}
 use lib.ListN.{length, getD}
 use lib.Signed.{mag}
-use mir.Syntax.{w32}
-use mir.Val.{SFits}
 use Rattle.lists.specs.Tabulate.{tabulate}
 use Rattle.lists.proofs.Bools.{cond-yes, cond-no}
 use Rattle.lists.proofs.Tabulate.{tabulated, length-tabulate, getD-tabulate}

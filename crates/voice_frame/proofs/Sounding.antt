@@ -1,12 +1,11 @@
 -- What a voice's frame sounds, by its marks: filters that are off change nothing, and playing leaves filters alone. Assumes nothing.
-use mathlib.Core.Path.{_≡_, refl, sym, ap, _∙_, subst}
-use mathlib.Core.Bool.{Bool, true, false, _||_, cond}
+use mathlib.Core.Path.{_≡_, sym, ap, _∙_, subst}
+use mathlib.Core.Bool.{false}
 use mathlib.Core.List.{List, _++_}
 use Prim.Native.Nat.{ℕ, _*_, _≤_}
 use lib.Dec.{T}
 use lib.IntN.{ℤ}
 use lib.ListN.{length, take, drop, take-append-drop}
-use Rattle.filters.specs.Process.{passedFrom, filtersAfter}
 use Rattle.filters.specs.Range.{filtersInRange}
 use Rattle.filters.specs.declared.state.Filters.{Filters}
 use Rattle.filters.proofs.Marks.{Off, off, marked}
@@ -27,11 +26,6 @@ filtered-off n v s b =
     let o = marked (λ (f : Filters). Off 0 f samples) (v .filters) false false s b (off 0 (v .filters .simple) (v .filters .biquad) samples) in
     let same = ap (λ (l : List ℤ). l ++ drop (n * 2) (v .frame)) (sym (o .0)) ∙ take-append-drop (n * 2) (v .frame) in
     λ i. set-voice-frame (same i) (set-voice-filters (sym (o .1) i) v)
-
--- two marks, neither of which is on
-pub neither : (s b : Bool) → (s || b) ≡ false → (s ≡ false) × (b ≡ false)
-neither true b e = absurd (subst (λ (x : Bool). cond x Unit ⊥) e tt)
-neither false b e = (refl, e)
 
 module _ (window : List ℕ) (base : ℕ) (v : Voice) (lane : List ℤ) where
   -- a frame leaves filters that can be run

@@ -13,7 +13,7 @@ use Rattle.voice.specs.Set.{set-voice-filters, set-voice-frame, set-voice-has-r
 use Rattle.voice.specs.Tidy.{tidied}
 use Rattle.voice.specs.declared.record.Voice.{Voice}
 use Rattle.config.specs.Parsed.{configured, bytesAfter}
-use Rattle.play.specs.Play.{Frame, played}
+use Rattle.play.specs.Play.{played}
 use Rattle.mix_voice.specs.Mixed.{rampedAt, summed}
 use Rattle.status.specs.Status.{statusOf}
 

@@ -1,5 +1,5 @@
 -- `status::status_of` meets its contract: four numbers over twelve bytes, each at its place, are the status. Assumes nothing.
-use mathlib.Core.Path.{_≡_, ap, _∙_}
+use mathlib.Core.Path.{ap, _∙_}
 use mathlib.Core.List.{List}
 use Prim.Native.Nat.{ℕ}
 use lib.ListN.{set, replicate}

@@ -1,6 +1,6 @@
 -- `track::heard_at` meets its contract, by whether an entry plays. Assumes nothing.
 use denote.Ref.{now}
-use mathlib.Core.Path.{_≡_, sym, ap, _∙_}
+use mathlib.Core.Path.{sym, ap, _∙_}
 use Rattle.lists.proofs.Bools.{cond-yes, cond-no}
 use Rattle.samples.specs.Samples.{sampleAt}
 use Rattle.track.specs.Track.{heardAt}

@@ -1,7 +1,5 @@
 -- `track::sound` meets its contract, by whether samples are taken as they are and whether the fraction is 0. Assumes nothing.
-use denote.Ref.{now}
-use mathlib.Core.Path.{_≡_, sym, ap, _∙_}
-use mathlib.Core.Bool.{_||_}
+use mathlib.Core.Path.{sym, _∙_}
 use lib.Ieee.{ofBits}
 use Rattle.lists.proofs.Bools.{or-yes, or-no, cond-yes, cond-no}
 use Rattle.track.specs.Track.{betweenSamples, soundOf}

@@ -1,7 +1,6 @@
 -- `track::track_of` meets its contract, by what `is_plain` says. Assumes nothing.
 use mathlib.Core.Bool.{Bool}
 use mathlib.Core.Path.{ap}
-use Rattle.track.specs.declared.Track.{Track}
 use borrow.Author.Needs.{needs}
 use Rattle.track.proofs.track_of.Statement.{statement}
 use Rattle.track.proofs.track_of.Tie as tie

@@ -8,7 +8,6 @@ use Rattle.steps.specs.declared.step.Cursor.{Cursor}
 use Rattle.track.specs.Laid.{laid, Turned}
 use Rattle.steps.proofs.Compose.{after-less}
 use Rattle.track.proofs.Onward.{turned-add, turned-full, laid-add, laid-length}
-use borrow.Author.Needs.{needs}
 use Rattle.play.proofs.entry.play_entry.Statement.{statement}
 use Rattle.play.proofs.entry.play_entry.Tie as tie
 

@@ -1,6 +1,5 @@
 -- `play::frame::be_silent` meets its contract, by whether an entry was queued. Assumes nothing.
-use denote.Ref.{now}
-use mathlib.Core.Path.{_≡_, sym, ap, _∙_}
+use mathlib.Core.Path.{sym, ap, _∙_}
 use Rattle.lists.proofs.Bools.{cond-yes, cond-no}
 use Rattle.dequeue.specs.declared.Dequeued.{Dequeued}
 use Rattle.play.specs.Play.{silentFrame}

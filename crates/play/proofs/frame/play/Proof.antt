@@ -1,5 +1,4 @@
 -- `play::frame::play` meets its contract: the entries one after the other, and what they leave. Assumes nothing.
-use mathlib.Core.Path.{_≡_}
 use mathlib.Core.Bool.{_&&_}
 use lib.Dec.{eqb}
 use Rattle.voice.specs.Set.{set-voice-frame, set-voice-ran-out-at-frame-end}

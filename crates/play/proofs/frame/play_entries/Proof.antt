@@ -3,8 +3,8 @@
 use denote.Ref.{now}
 use mathlib.Core.Path.{_≡_, refl, sym, ap, _∙_, subst}
 use mathlib.Core.List.{List}
-use mathlib.Core.Bool.{true, false}
-use Prim.Native.Nat.{ℕ, zero, suc, _+_, _-_, _≤_, _<_}
+use mathlib.Core.Bool.{false}
+use Prim.Native.Nat.{ℕ, _+_, _-_, _<_}
 use native.Mathlib.Decide.{ℕ-discrete}
 use native.Mathlib.Omega.{arith}
 use lib.IntN.{ℤ}
@@ -16,7 +16,7 @@ use Rattle.voice.specs.Malformed.{queuedIn}
 use Rattle.voice.proofs.Lengths.{queue-places}
 use Rattle.steps.specs.declared.step.Cursor.{Cursor}
 use Rattle.steps.specs.declared.stretch.Reached.{Reached}
-use Rattle.dequeue.specs.Dequeue.{dequeued, dequeuedLane}
+use Rattle.dequeue.specs.Dequeue.{dequeued}
 use Rattle.dequeue.specs.declared.Dequeued.{Dequeued}
 use Rattle.track.specs.Track.{trackOf, cursorOf}
 use Rattle.track.specs.Laid.{laid, Turned}
@@ -24,7 +24,7 @@ use Rattle.track.specs.declared.Track.{Track}
 use Rattle.track.proofs.Onward.{laid-none}
 use Rattle.play.specs.Play.{Midst, entering, at, frameOf, begunNext, onward}
 use Rattle.play.proofs.Laying.{frame-long}
-use Rattle.play.proofs.Going.{Going, Ready, going-none, going-on, going-stop, ready-first, ready-next, none-lane}
+use Rattle.play.proofs.Going.{Going, going-none, going-on, going-stop, ready-first, ready-next, none-lane}
 use Rattle.play.proofs.frame.play_entries.Statement.{statement}
 use Rattle.play.proofs.frame.play_entries.Tie as tie
 

@@ -1,6 +1,6 @@
 -- `play::frame::play_left` meets its contract, by whether something remains. Assumes nothing.
 use denote.Ref.{now}
-use mathlib.Core.Path.{_≡_, refl, sym}
+use mathlib.Core.Path.{refl, sym}
 use native.Mathlib.Omega.{arith}
 use Rattle.track.proofs.Onward.{laid-none}
 use borrow.Author.Needs.{needs}

@@ -1,7 +1,5 @@
 -- `voice_frame::mixes::mix_into` meets its contract, by whether the voice is enabled. Assumes nothing.
 use mathlib.Core.Path.{sym, _∙_}
-use native.Mathlib.Omega.{arith}
-use lib.ListN.{length}
 use Rattle.voice.proofs.Lengths.{gain-12, ramp-12, frame-320}
 use Rattle.voice_frame.proofs.Parts.{mixed-on, mixed-off}
 use borrow.Author.Needs.{needs}

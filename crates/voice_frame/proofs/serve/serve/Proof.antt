@@ -3,19 +3,17 @@
 use denote.Ref.{now}
 use mathlib.Core.Path.{_≡_, sym, ap, _∙_, subst}
 use mathlib.Core.List.{List}
-use Prim.Native.Nat.{ℕ, _≤_}
-use native.Mathlib.Omega.{arith}
 use lib.IntN.{ℤ}
 use lib.ListN.{length}
 use Rattle.voice.specs.Malformed.{WellFormed}
 use Rattle.voice.specs.declared.record.Voice.{Voice}
 use Rattle.voice.proofs.Formed.{not-malformed-formed, formed-not-malformed}
 use Rattle.status.specs.Status.{statusOf}
-use Rattle.config.specs.Parsed.{configured, bytesAfter}
+use Rattle.config.specs.Parsed.{configured}
 use Rattle.config.specs.declared.parse.Configured.{Configured}
 use Rattle.config_laws.proofs.Formed.{keeps-formed}
 use Rattle.config_laws.proofs.Refused.{refused-untouched}
-use Rattle.voice_frame.specs.VoiceFrame.{Fed, Answer, fed, number, given, voiceFrame, numberOf, voiceAfter, laneAfter}
+use Rattle.voice_frame.specs.VoiceFrame.{Fed, Answer, fed, number, given, numberOf, voiceAfter, laneAfter}
 use Rattle.voice_frame.specs.VoiceFrame.{configurationAfter, statusAfter, mixesAfter, partsOf, mixedWith, left, sounding}
 use Rattle.voice_frame.specs.VoiceFrame.{soundingLane}
 use Rattle.voice_frame.proofs.Answers.{refuses, serves}

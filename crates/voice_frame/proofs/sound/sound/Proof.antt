@@ -1,20 +1,15 @@
 -- `voice_frame::sound::sound` meets its contract, by whether the voice is enabled and a filter is on. Assumes nothing.
 use denote.Ref.{now}
-use mathlib.Core.Path.{_≡_, sym, ap, _∙_, subst}
-use mathlib.Core.Bool.{Bool, true, false, not}
-use Prim.Native.Nat.{ℕ, _≤_, _*_}
+use mathlib.Core.Path.{_≡_, sym, _∙_, subst}
 use native.Mathlib.Omega.{arith}
 use lib.Dec.{T}
-use lib.ListN.{length, take, drop}
-use mathlib.Core.List.{_++_}
 use borrow.Author.Tests.{not-true, not-false}
-use Rattle.lists.proofs.Bools.{cond-yes, cond-no}
+use Rattle.lists.proofs.Bools.{cond-yes, cond-no, or-neither}
 use Rattle.filters.specs.Range.{filtersInRange}
 use Rattle.voice.specs.Set.{set-voice-filters, set-voice-frame}
 use Rattle.voice.specs.declared.record.Voice.{Voice}
-use Rattle.play.specs.Play.{played}
 use Rattle.voice_frame.specs.VoiceFrame.{filtered, sounding, soundingLane}
-use Rattle.voice_frame.proofs.Sounding.{filtered-off, neither, played-range, played-most}
+use Rattle.voice_frame.proofs.Sounding.{filtered-off, played-range, played-most}
 use borrow.Author.Needs.{needs}
 use Rattle.voice_frame.proofs.sound.sound.Statement.{statement}
 use Rattle.voice_frame.proofs.sound.sound.Tie as tie
@@ -72,7 +67,7 @@ returns-3 c =
     let e = p .play-frame .ensures in
     let on = not-false (a .v .enabled) (p .before .before .if1 .left) in
     let w = p .play-frame .result .voice in
-    let off = neither (w .filters .«has_simple») (w .filters .«has_biquad») (c .if2 .left) in (
+    let off = or-neither (w .filters .«has_simple») (w .filters .«has_biquad») (c .if2 .left) in (
       sym (filtered-off (p .play-frame .result .produced) w (off .0) (off .1)) ∙ (λ i. filtered (e .1 .1 i) (e .0 i))
           ∙ sym (cond-yes _ _ on),
       e .1 .0 ∙ sym (cond-yes _ _ on),
