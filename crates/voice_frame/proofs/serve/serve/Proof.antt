@@ -3,6 +3,7 @@
 use denote.Ref.{now}
 use mathlib.Core.Path.{_≡_, sym, ap, _∙_, subst}
 use mathlib.Core.List.{List}
+use native.Mathlib.Omega.{arith}
 use lib.IntN.{ℤ}
 use lib.ListN.{length}
 use Rattle.voice.specs.Malformed.{WellFormed}
@@ -59,7 +60,7 @@ same-length c = search needs
 returns : tie.Need-returns
 returns c =
     let d = c .before .before .before .before in
-    let not0 : number (f d) ≡ 0 → ⊥ = λ z. c .if1 .taken (is-number d ∙ z) in
+    let not0 : number (f d) ≡ 0 → ⊥ = λ z. omega (arith, c .if1 .taken, is-number d, z) in
     let r = refuses (f d) not0 in
     let stays = refused-untouched (f d .configuration) (f d .coefficients) (v d) (length (old d)) not0 in (
       is-number d ∙ sym (ap numberOf r),
@@ -117,7 +118,7 @@ returns-2 c =
     let s = m .before .before .before in
     let e = s .before .before .before in
     let d = e .before .before .before .before in
-    let r = serves (f d) (sym (is-number d) ∙ e .if1 .left) in
+    let r = serves (f d) (omega (arith, is-number d, e .if1 .left)) in
     let here = s .sound .ensures .0
     ∙ ap (λ (u : Voice). sounding (f d .window) (f d .base) u (old d)) (is-voice d) in (
       sym (ap numberOf r),
