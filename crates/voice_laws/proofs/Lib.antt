@@ -1,0 +1,4 @@
+pub mod Numbers
+pub mod Filtered
+pub mod Left
+pub mod Frame
