@@ -3,12 +3,14 @@
 -- Assumes nothing: these are definitions.
 use mathlib.Core.Bool.{Bool, _&&_, _||_, not, cond}
 use mathlib.Core.List.{List, []}
-use Prim.Native.Nat.{ℕ, _+_, _-_, _*_, _^_, _≤_}
+use mathlib.Core.Path.{_≡_}
+use Prim.Native.Nat.{ℕ, _+_, _-_, _*_, _^_, _≤_, _<_}
 use lib.Dec.{eqb, ltb, leb}
 use lib.IntN.{ℤ, pos}
 use lib.ListN.{length, getD}
 use lib.Ieee.{Float, eq}
 use Rattle.numbers.specs.Literals.{+0}
+use Rattle.numbers.specs.Sizes.{«FRAME_SAMPLES», FRAME}
 use Rattle.numbers.specs.Wrap.{signed16}
 use Rattle.little.specs.Little.{at16}
 use Rattle.window.specs.Window.{lookUp}
@@ -92,3 +94,12 @@ soundBy heard plain place fraction =
 -- the sample that is produced where playing is
 abbrev pub soundIn : List ℤ → List ℕ → Track → Cursor → Sample
 soundIn lane bytes t c = soundBy (sampleIn lane bytes (t .playing)) (t .plain) (t .length - c .remaining) (c .fraction)
+
+-- what a stretch is played from: an entry that is at hand and as long as the record says, with at least two samples left, into a frame
+pub record Playable (lane : List ℤ) (bytes : List ℕ) (t : Track) (c : Cursor) (frame : List ℤ) (output : ℕ) : Type 0 where
+  pub holds : Holds lane bytes (t .playing)
+  pub whole : t .playing .length ≡ t .length
+  pub room : output ≤ «FRAME_SAMPLES»
+  pub long : length frame ≡ FRAME
+  pub two-left : 1 < c .remaining
+  pub inside : c .remaining ≤ t .length

@@ -17,14 +17,14 @@ use voice::malformed::is_adpcm;
 use voice::record::Entry;
 ghost use mathlib.Core.Path.{_≡_};
 ghost use mathlib.Core.Bool.{true, _||_};
-ghost use Prim.Native.Nat.{_-_, _+_, _≤_, _<_};
+ghost use Prim.Native.Nat.{_-_, _+_, _≤_};
 ghost use lib.ListN.{length};
 ghost use lib.Ieee.{eq};
 ghost use Rattle.numbers.specs.Literals.{+0, +1};
 ghost use Rattle.numbers.specs.Sizes.{«FRAME_SAMPLES», FRAME};
 ghost use Rattle.steps.specs.Stretch.{Stretched};
 ghost use Rattle.track.specs.Laid.{laid, Onward};
-ghost use Rattle.stretches.specs.Source.{Holds, isMono, isHeld, isReady};
+ghost use Rattle.stretches.specs.Source.{Holds, Playable, isMono, isHeld, isReady};
 ghost use Rattle.stretches.specs.Stored.{stored, Within, allZero, blendedAt, notedAt, soundAfter};
 
 fn is_mono(e: Entry) -> bool
@@ -155,12 +155,7 @@ fn play_walk(
     frame: &mut [i16; FRAME],
     output: usize,
 ) -> Reached
-    requires { ⌜ Holds (now lane) (now bytes) (t .playing) ⌝ }
-    requires { ⌜ t .playing .length ≡ t .length ⌝ }
-    requires { ⌜ output ≤ «FRAME_SAMPLES» ⌝ }
-    requires { ⌜ length (now frame) ≡ FRAME ⌝ }
-    requires { ⌜ 1 < c .remaining ⌝ }
-    requires { ⌜ c .remaining ≤ t .length ⌝ }
+    requires { ⌜ Playable (now lane) (now bytes) t c (now frame) output ⌝ }
     ensures { λ r. ⌜ Stretched (t .rate) c («FRAME_SAMPLES» - output) r ⌝ }
     ensures { λ r. ⌜ now (frame .exit) ≡
         stored (soundAfter (now (lane .entry)) (now (bytes .entry)) t c) output (r .count) (now (frame .entry)) ⌝ }
@@ -188,12 +183,7 @@ fn play_run(
     frame: &mut [i16; FRAME],
     output: usize,
 ) -> Reached
-    requires { ⌜ Holds (now lane) (now bytes) (t .playing) ⌝ }
-    requires { ⌜ t .playing .length ≡ t .length ⌝ }
-    requires { ⌜ output ≤ «FRAME_SAMPLES» ⌝ }
-    requires { ⌜ length (now frame) ≡ FRAME ⌝ }
-    requires { ⌜ 1 < c .remaining ⌝ }
-    requires { ⌜ c .remaining ≤ t .length ⌝ }
+    requires { ⌜ Playable (now lane) (now bytes) t c (now frame) output ⌝ }
     requires { ⌜ t .rate ≡ +1 ⌝ }
     requires { ⌜ eq (c .fraction) +0 ≡ true ⌝ }
     ensures { λ r. ⌜ Stretched (t .rate) c («FRAME_SAMPLES» - output) r ⌝ }
@@ -215,12 +205,7 @@ fn play_held(
     frame: &mut [i16; FRAME],
     output: usize,
 ) -> Reached
-    requires { ⌜ Holds (now lane) (now bytes) (t .playing) ⌝ }
-    requires { ⌜ t .playing .length ≡ t .length ⌝ }
-    requires { ⌜ output ≤ «FRAME_SAMPLES» ⌝ }
-    requires { ⌜ length (now frame) ≡ FRAME ⌝ }
-    requires { ⌜ 1 < c .remaining ⌝ }
-    requires { ⌜ c .remaining ≤ t .length ⌝ }
+    requires { ⌜ Playable (now lane) (now bytes) t c (now frame) output ⌝ }
     ensures { λ r. ⌜ Stretched (t .rate) c («FRAME_SAMPLES» - output) r ⌝ }
     ensures { λ r. ⌜ now (frame .exit) ≡
         stored (soundAfter (now (lane .entry)) (now (bytes .entry)) t c) output (r .count) (now (frame .entry)) ⌝ }

@@ -13,13 +13,11 @@ play-run-requires c κs =
     let b = c .before in
     let a = b .before .before in
     let s = a .before .before .before in
-    let p = s .pre in
-    let q = p .1 .1 .1 in
     let whole : s .args .t .rate ≡ +1 =
     one-unique (s .args .t .rate) (a .before .struct-known .given .1 .1 .1 .1 .0)
     (ap (λ (y : Float). eq (s .args .t .rate) y) (sym one-64) ∙ a .if1 .taken) in
     let zero = ap (λ (y : Float). eq (s .args .c .fraction) y) (sym zero-64) ∙ b .if2 .taken in
-    (p .0, (p .1 .0, (p .1 .1 .0, (q .0, (q .1 .0, (q .1 .1, (whole, zero)))))))
+    (s .pre, (whole, zero))
 
 returns : tie.Need-returns
 returns c = search needs

@@ -53,7 +53,14 @@ play-held-requires c κs =
     let long = ready-long (now (a .window)) (a .base) (now (a .lane)) (a .t) (p .1 .1 .1) (is-ready d) in
     let holds = subst (λ (l : List ℕ). Holds (now (a .lane)) l (a .t .playing)) (sym bytes)
     (ready-holds (now (a .window)) (a .base) (now (a .lane)) (a .t) (p .1 .1 .1) (is-ready d)) in
-    (holds, (long, (p .0, (p .1 .0, (d .before .before .if1 .taken, p .1 .1 .0)))))
+    record {
+      holds = holds;
+      whole = long;
+      room = p .0;
+      long = p .1 .0;
+      two-left = d .before .before .if1 .taken;
+      inside = p .1 .1 .0;
+    }
 
 returns : tie.Need-returns
 returns c =

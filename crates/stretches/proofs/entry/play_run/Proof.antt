@@ -21,7 +21,8 @@ count-less : (c : tie.After-reach) → c .reach .result .count ≤ c .before .be
 count-less c =
     let s = c .before .before .before in
     let d = s .args .c in
-    let zero = s .pre .1 .1 .1 .1 .1 .1 .1 in
+    let zero = s .pre .1 .1 in
+    let p = s .pre .0 in
     ⊎-elim
     (λ l. absurd (omega (
       arith,
@@ -47,24 +48,24 @@ fetch-run-requires : tie.Need-fetch-run-requires
 fetch-run-requires c κs =
     let r = c .before .before .before in
     let s = r .before .before .before in
-    let p = s .pre in
+    let p = s .pre .0 in
     let within = count-less r in
-    (p .0, (omega (arith, p .1 .0, within, p .1 .1 .1 .1 .1 .0), (omega (arith, r .reach .ensures .count-most, p .1 .1 .0), p .1 .1 .1 .0)))
+    (p .holds, (omega (arith, p .whole, within, p .inside), (omega (arith, r .reach .ensures .count-most, p .room), p .long)))
 
 returns : tie.Need-returns
 returns c =
     let r = c .before .before .before .before in
     let s = r .before .before .before in
     let a = s .args in
-    let p = s .pre .1 .1 .1 .1 in
+    let p = s .pre in
     let lane = now (a .lane) in
     let bytes = now (a .bytes) in
     let n = r .reach .result .count in (
-      subst (λ (x : Float). Stretched x (a .c) (160 - a .output) (r .reach .result)) (sym (p .1 .1 .0)) (r .reach .ensures),
+      subst (λ (x : Float). Stretched x (a .c) (160 - a .output) (r .reach .result)) (sym (p .1 .0)) (r .reach .ensures),
       c .fetch-run .ensures
           ∙ stored-same (runAt lane bytes (a .t .playing) (a .t .length - a .c .remaining)) (a .output) (now (a .frame))
           (soundAfter lane bytes (a .t) (a .c)) n
-          (λ i h. run-sound lane bytes (a .t) (a .c) (p .1 .1 .0) (p .1 .1 .1) (p .1 .0) i (omega (arith, count-less r, h))),
+          (λ i h. run-sound lane bytes (a .t) (a .c) (p .1 .0) (p .1 .1) (p .0 .inside) i (omega (arith, count-less r, h))),
     )
 
 pub play-run-spec : {M : Type 1} → statement M

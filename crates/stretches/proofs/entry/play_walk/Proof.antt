@@ -21,8 +21,8 @@ play-noted-requires c κs =
     let a = s .args in
     let p = s .pre in
     let inside = walked-within (a .t .rate) (a .c) (a .t .length) _ _ (w .walk .result .count) (a .t .playing .length)
-    (omega (arith, p .1 .1 .1 .1 .0, p .1 .1 .1 .1 .1)) (p .1 .0) (w .walk .ensures .0 .inside) (w .walk .ensures .1) in
-    (p .0, (inside, (omega (arith, w .walk .ensures .0 .count-most, p .1 .1 .0), p .1 .1 .1 .0)))
+    (omega (arith, p .two-left, p .inside)) (p .whole) (w .walk .ensures .0 .inside) (w .walk .ensures .1) in
+    (p .holds, (inside, (omega (arith, w .walk .ensures .0 .count-most, p .room), p .long)))
 
 returns : tie.Need-returns
 returns c =
