@@ -1,4 +1,5 @@
--- What a voice adds to the mixes, by whether it is enabled: the parts of mix_voice, or nothing. By what stands at an index. Assumes nothing.
+-- What a voice adds to the mixes, by whether it is enabled: the parts of mix_voice, or nothing. By what stands at an index. Assumes
+-- nothing.
 use mathlib.Core.Path.{_≡_, sym, ap, _∙_}
 use mathlib.Core.Bool.{true, false, cond}
 use mathlib.Core.List.{List}

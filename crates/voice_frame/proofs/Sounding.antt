@@ -23,7 +23,8 @@ pub filtered-off : (n : ℕ) (v : Voice) → v .filters .«has_simple» ≡ fals
 unfolding filtered
 filtered-off n v s b =
     let samples = take (n * 2) (v .frame) in
-    let o = marked (λ (f : Filters). Off 0 f samples) (v .filters) false false s b (off 0 (v .filters .simple) (v .filters .biquad) samples) in
+    let o = marked (λ (f : Filters). Off 0 f samples) (v .filters) false false s b
+    (off 0 (v .filters .simple) (v .filters .biquad) samples) in
     let same = ap (λ (l : List ℤ). l ++ drop (n * 2) (v .frame)) (sym (o .0)) ∙ take-append-drop (n * 2) (v .frame) in
     λ i. set-voice-frame (same i) (set-voice-filters (sym (o .1) i) v)
 

@@ -285,10 +285,10 @@ returns c =
 same-length-2 : tie.Need-same-length-2 Inv-loop μ-loop
 same-length-2 c =
     let d = c .before .before .before in
-    let g = going (loop d) in
+    let l = loop d in
     let none = sym (is-found d) ∙ not-true (d .dequeue .result .found) (c .if1 .taken) in
-    ap length (d .dequeue .ensures .1 ∙ none-lane (win (loop d .before)) (base (loop d .before)) (loop d .loop .w) (loop d .loop .lane) none)
-    ∙ g .lane-long
+    ap length (d .dequeue .ensures .1 ∙ none-lane (win (l .before)) (base (l .before)) (l .loop .w) (l .loop .lane) none)
+    ∙ going l .lane-long
 
 returns-2 : tie.Need-returns-2 Inv-loop μ-loop
 returns-2 c =

@@ -1,5 +1,5 @@
--- `voice_frame::serve::serve` meets its contract: refused, nothing was changed; served, each step gave its part of the frame. A record stays
--- well-formed through its configuration. Assumes nothing.
+-- `voice_frame::serve::serve` meets its contract: refused, nothing was changed; served, each step gave its part of the frame. A record
+-- stays well-formed through its configuration. Assumes nothing.
 use denote.Ref.{now}
 use mathlib.Core.Path.{_≡_, sym, ap, _∙_, subst}
 use mathlib.Core.List.{List}
