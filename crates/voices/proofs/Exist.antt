@@ -15,7 +15,7 @@ use Rattle.voice.specs.Range.{isByte, unsigned, signed, inRange, sized}
 use Rattle.voice.proofs.Formed.{formed-not-malformed, default-formed}
 use Rattle.voice.proofs.Range.{in-range-test, default-in-range, sized-test, default-sized}
 use Rattle.voices.specs.Memory.{Fixed, Memory, Lent, laneLength}
-use Rattle.voices.specs.Call.{lengths, lengthsNumber, wholeNumber, aloneNumber, Outcome, called, upTo}
+use Rattle.voices.specs.Call.{lengths, lengthsNumber, wholeNumber, aloneNumber, Outcome, called, allVoices}
 use Rattle.voices.specs.Stems.{Frame, before, lent, RunsExist}
 use Rattle.voices.proofs.Serve.{Good}
 use Rattle.voices.proofs.Accept.{accepted}
@@ -112,12 +112,12 @@ pub runs-exist : RunsExist
 runs-exist = record {
   accepted = (example, start, start-good .typed, accepted example start start-good start-mixes);
   whole = λ fx start frames. (
-    outs (λ x. called (wholeNumber fx x) fx (upTo 24) x) start frames,
+    outs (λ x. called (wholeNumber fx x) fx allVoices x) start frames,
     record {
       calls = λ k h. record {
-        order = upTo 24;
-        each-once = Permᴰ·refl (upTo 24);
-        is = outs-is (λ x. called (wholeNumber fx x) fx (upTo 24) x) start frames k;
+        order = allVoices;
+        each-once = Permᴰ·refl allVoices;
+        is = outs-is (λ x. called (wholeNumber fx x) fx allVoices x) start frames k;
       };
     },
   );

@@ -166,10 +166,14 @@ unfoldable pub upTo : ℕ → List ℕ
 upTo zero = []
 upTo (suc n) = upTo n ++ (n ∷ [])
 
+-- the voices
+abbrev pub allVoices : List ℕ
+allVoices = upTo VOICES
+
 -- The call for all voices: "A call may serve in any order that takes each voice once, and the list follows that order"
 pub record AllServed (fx : Fixed) (x : Lent) (o : Outcome) : Type 0 where
   pub order : List ℕ
-  pub each-once : List·Permᴰ order (upTo VOICES)
+  pub each-once : List·Permᴰ order allVoices
   pub is : o ≡ called (wholeNumber fx x) fx order x
 
 -- The call for voice v alone

@@ -128,8 +128,9 @@ pub record Compared (fx : Fixed) (start : Memory) (frames : List Frame) (k : ℕ
   -- each mix value of the whole run is the sum of the 24 stem values modulo 2 ^ 32
   pub sums : (i : ℕ) → i < MIXES → mixValue i whole ≡ wrap32 (sumOf VOICES (λ v. mixValue i (stem v)))
 
--- One layout and base, one start and one recording for all the runs; the start is of its types, "accepted" and "Well-formed"; the recording
--- is any list of frames. Then the whole run, whatever orders its calls took, and the stem runs of the 24 voices compare after each frame.
+-- One layout and base, one start and one recording for all the runs. The start is of its types and its number is 0: "Well-formed: 7 does
+-- not apply; accepted: no other whole-call number does". The recording is any list of frames that write bytes and samples. Then the whole
+-- run, whatever order each of its calls took, and the stem runs of the 24 voices compare so after every frame.
 pub record WholeAndStems : Type 0 where
   pub holds :
       (fx : Fixed) (start : Lent) → Typed (start .memory) → wholeNumber fx start ≡ 0
