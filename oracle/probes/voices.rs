@@ -92,6 +92,19 @@ impl ProbePlayer {
         parse_config(&mut self.0, memory, base, coefficients);
     }
 
+    /// what tick does for one voice, by the addresses of its configuration,
+    /// coefficients and status. kept out of line, to be measured by name.
+    #[inline(never)]
+    pub fn probe_serve(&mut self, memory: &mut Memory, addresses: [u32; 3], mixes: &mut [QuadFrame; 3]) {
+        let [configuration, coefficients, status] = addresses;
+        parse_config(&mut self.0, memory, configuration, coefficients);
+        if self.0.enabled {
+            self.0.play_frame(memory);
+        }
+        self.0.mix_into(mixes);
+        write_status(&mut self.0, memory, status);
+    }
+
     /// what the next frame will do, found on a copy of the voice: the steps
     /// of play_frame up to the filters.
     pub fn follow(&self, memory: &mut Memory) -> ProbeFollowed {
@@ -116,6 +129,13 @@ impl ProbePlayer {
         }
         let Counting { present, absent, .. } = counting;
         ProbeFollowed { silent, dequeued, produced, present, absent }
+    }
+}
+
+impl Voices {
+    /// puts a voice in the place of another, which is handed out.
+    pub fn probe_swap(&mut self, index: usize, player: &mut ProbePlayer) {
+        std::mem::swap(&mut self.voices[index], &mut player.0);
     }
 }
 

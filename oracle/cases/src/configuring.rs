@@ -31,6 +31,7 @@ const MARKS: [usize; 10] = [0, 1, 6, 7, 92, 93, 94, 232, 233, 234];
 pub const KIND_CONFIGURATION: u32 = 0;
 pub const KIND_FILTERS: u32 = 1;
 pub const KIND_PLAYING: u32 = 2;
+pub const KIND_SERVING: u32 = 3;
 
 /// the bits that the port writes for what is not a number.
 const NAN32: u32 = 0x7FC0_0000;
@@ -47,7 +48,7 @@ fn read16(bytes: &[u8], at: usize) -> u16 {
     u16::from_le_bytes(bytes[at..at + 2].try_into().unwrap())
 }
 
-fn read32(bytes: &[u8], at: usize) -> u32 {
+pub(crate) fn read32(bytes: &[u8], at: usize) -> u32 {
     u32::from_le_bytes(bytes[at..at + 4].try_into().unwrap())
 }
 
@@ -59,7 +60,7 @@ fn dsp32(bytes: &[u8], at: usize) -> u32 {
     (read16(bytes, at) as u32) << 16 | read16(bytes, at + 2) as u32
 }
 
-fn put<const N: usize>(bytes: &mut [u8], at: usize, value: [u8; N]) {
+pub(crate) fn put<const N: usize>(bytes: &mut [u8], at: usize, value: [u8; N]) {
     bytes[at..at + N].copy_from_slice(&value);
 }
 
@@ -67,7 +68,7 @@ pub fn put_dsp32(bytes: &mut [u8], at: usize, value: u32) {
     put(bytes, at, value.rotate_left(16).to_le_bytes());
 }
 
-fn bits32(x: f32) -> u32 {
+pub(crate) fn bits32(x: f32) -> u32 {
     if x.is_nan() { NAN32 } else { x.to_bits() }
 }
 

@@ -8,6 +8,7 @@ pub mod listing;
 mod mixing;
 pub mod playing;
 mod random;
+pub mod serving;
 
 pub use adpcm::{Decode, EXTREMES, bytes_of};
 pub use mixing::{Mixed, Mixing, VALUES};

@@ -138,7 +138,8 @@ pub fn decode_into(followed: &ProbeFollowed, lane: &mut [i16]) {
     }
 }
 
-fn halves(samples: &[i16]) -> Vec<u8> {
+/// samples as bytes.
+pub fn halves(samples: &[i16]) -> Vec<u8> {
     samples.iter().flat_map(|sample| sample.to_le_bytes()).collect()
 }
 
@@ -174,7 +175,7 @@ fn fraction(random: &mut Random) -> f64 {
 
 /// a length: none, one, such as ends with a frame at this rate, about the
 /// window's, or any.
-fn length(random: &mut Random, place: &Place, rate: f64) -> u32 {
+pub(crate) fn length(random: &mut Random, place: &Place, rate: f64) -> u32 {
     match random.below(10) {
         0 => 0,
         1 => 1 + random.below(3) as u32,
@@ -189,7 +190,7 @@ fn length(random: &mut Random, place: &Place, rate: f64) -> u32 {
     }
 }
 
-fn address(random: &mut Random, place: &Place) -> u32 {
+pub(crate) fn address(random: &mut Random, place: &Place) -> u32 {
     let end = place.base.wrapping_add(place.length as u32);
     match random.below(10) {
         0 => random.word() as u32,
@@ -200,7 +201,7 @@ fn address(random: &mut Random, place: &Place) -> u32 {
     }
 }
 
-fn random_entry(random: &mut Random, place: &Place, rate: f64, queued: bool) -> ProbeBuffer {
+pub(crate) fn random_entry(random: &mut Random, place: &Place, rate: f64, queued: bool) -> ProbeBuffer {
     let format = random.pick(&FORMATS);
     let mut length = length(random, place, rate);
     if queued && format == ProbeFormat::Adpcm && length > place.lane {

@@ -5,7 +5,7 @@ use cases::playing::Place;
 use zakuro_core::services::dsp_voices::{ProbeBuffer, ProbeDequeued, ProbeFollowed, ProbeFormat, ProbeVoice};
 
 /// so many runs must meet every kind.
-const MANY: usize = 2_000;
+pub const MANY: usize = 2_000;
 const FULL: u64 = 1 << 32;
 
 /// a frame: the voice before it and after it, what happened in it, and
@@ -192,13 +192,7 @@ impl Met {
     /// prints the table; after many runs every kind must have been met.
     pub fn tell(&self, runs: usize) -> Result<(), String> {
         println!("play: {runs} runs, {} frames", self.frames);
-        let mut never = Vec::new();
-        for ((kind, _), times) in KINDS.iter().zip(self.kinds) {
-            println!("play: {times:>10} {kind}");
-            if times == 0 {
-                never.push(kind.to_string());
-            }
-        }
+        let mut never = table("play", KINDS.iter().map(|(kind, _)| *kind).zip(self.kinds));
         for (format, name) in ["PCM8", "PCM16", "ADPCM"].into_iter().enumerate() {
             for (stereo, channels) in ["mono", "stereo"].into_iter().enumerate() {
                 let [polyphase, linear, none] = self.heard[format][stereo];
@@ -213,4 +207,16 @@ impl Met {
         }
         Ok(())
     }
+}
+
+/// prints how often each kind was met, and gives those that never were.
+pub fn table(name: &str, kinds: impl Iterator<Item = (&'static str, u64)>) -> Vec<String> {
+    let mut never = Vec::new();
+    for (kind, times) in kinds {
+        println!("{name}: {times:>10} {kind}");
+        if times == 0 {
+            never.push(kind.to_string());
+        }
+    }
+    never
 }

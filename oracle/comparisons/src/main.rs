@@ -17,7 +17,9 @@ mod mixer;
 mod play;
 mod port;
 mod region;
+mod served;
 mod stream;
+mod voice;
 mod window;
 
 use std::env;
@@ -31,7 +33,7 @@ use cases::Random;
 type Comparison = fn(&mut Random, usize) -> Result<u64, String>;
 
 /// each with how many random inputs are few.
-const COMPARISONS: [(&str, Comparison, usize); 11] = [
+const COMPARISONS: [(&str, Comparison, usize); 12] = [
     ("region", region::compare, 100_000),
     ("dsp32", dsp32::compare, 100_000),
     ("window", window::compare, 100_000),
@@ -43,6 +45,7 @@ const COMPARISONS: [(&str, Comparison, usize); 11] = [
     ("filters", filters::compare, 20_000),
     ("config", config::compare, 20_000),
     ("play", play::compare, 2_000),
+    ("voice", voice::compare, 2_000),
 ];
 
 /// the oracle's answer and the port's are the same, or the input is told.

@@ -1,22 +1,32 @@
-//! the decoder, the mixer, the configuration reader or playing, of the source
-//! or of the port alone, on the same input.
+//! the decoder, the mixer, the configuration reader, playing or a voice's
+//! whole frame, of the source or of the port alone, on the same input.
 
 use std::hint::black_box;
 use std::time::{Duration, Instant};
 
-use cases::configuring::{FLAGS, Job};
+use cases::configuring::{FLAGS, Job, record_of, voice_of};
 use cases::playing::Play;
+use cases::serving::Serve;
 use cases::{Decode, Mixing, Random};
-use zakuro_core::services::dsp_voices::{ProbeBuffer, ProbeFormat, ProbeInterpolation, ProbeVoice, probe_decode};
+use zakuro_core::services::dsp_voices::{
+    FRAME_SAMPLES, ProbeBiquad, ProbeBuffer, ProbeFilters, ProbeFormat, ProbeInterpolation, ProbeSimple, ProbeVoice,
+    probe_decode,
+};
 
 use crate::port;
 
-/// prints how many samples were decoded or frames mixed or played, and how
-/// many nanoseconds it took. the side `record` is what the port's playing
-/// does besides: reading the record from bytes and writing it.
+/// prints how many samples were decoded or frames mixed, played or served,
+/// and how many nanoseconds it took. the side `record` is what the port's
+/// playing or serving does besides: reading the record from bytes and writing
+/// it.
 pub fn run(what: &str, side: &str) -> Result<(), String> {
     if let Some((_, play)) = plays().into_iter().find(|(name, _)| *name == what) {
         let (many, time) = play_frames(&play, side)?;
+        println!("{many} {}", time.as_nanos());
+        return Ok(());
+    }
+    if let Some((_, serve)) = voices().into_iter().find(|(name, _)| *name == what) {
+        let (many, time) = serve_frames(&serve, side)?;
         println!("{many} {}", time.as_nanos());
         return Ok(());
     }
@@ -200,6 +210,57 @@ fn play_frames(play: &Play, side: &str) -> Result<(usize, Duration), String> {
         }
         time += start.elapsed();
         black_box((&player, &record));
+    }
+    Ok((TIMES, time))
+}
+
+/// whole frames of such voices, heard in every channel of every mix, with
+/// nothing new in their configurations.
+fn voices() -> [(&'static str, Serve); 6] {
+    let [mono, stereo, adpcm, ..] = plays().map(|(_, play)| play);
+    let serve = |play: &Play, change: fn(&mut ProbeVoice)| {
+        let mut voice = voice_of(&play.record);
+        voice.gain = [0, 1, 2].map(|mix| [0, 1, 2, 3].map(|channel| 0.1 + 0.05 * (4 * mix + channel) as f32));
+        change(&mut voice);
+        Serve::of(Play { record: record_of(&voice), ..play.clone() })
+    };
+    [
+        ("voice-mono", serve(&mono, |_| {})),
+        ("voice-stereo", serve(&stereo, |_| {})),
+        ("voice-adpcm", serve(&adpcm, |_| {})),
+        ("voice-filters", serve(&mono, |voice| voice.filters = filters())),
+        ("voice-fading", serve(&mono, |voice| voice.ramp = [Some([1.0; 4]); 3])),
+        ("voice-disabled", serve(&mono, |voice| voice.enabled = false)),
+    ]
+}
+
+fn filters() -> ProbeFilters {
+    let simple = ProbeSimple { b0: 20_000, a1: 5_000, y1: [0; 2] };
+    let biquad = ProbeBiquad { b: [8_000, 4_000, 2_000], a: [3_000, -1_000], x: [[0; 2]; 2], y: [[0; 2]; 2] };
+    ProbeFilters { simple: Some(simple), biquad: Some(biquad) }
+}
+
+fn serve_frames(serve: &Serve, side: &str) -> Result<(usize, Duration), String> {
+    const TIMES: usize = 2000;
+    let mut stage = serve.stage(0);
+    let (addresses, player) = (stage.addresses(), stage.player.clone());
+    let mut lent = serve.lent.clone();
+    let mut mixes = [[[0; FRAME_SAMPLES]; 4]; 3];
+    let mut time = Duration::ZERO;
+    for _ in 0..TIMES {
+        let mut player = player.clone();
+        lent.record.copy_from_slice(&serve.lent.record);
+        lent.mixes.fill(0);
+        mixes.as_flattened_mut().as_flattened_mut().fill(0);
+        let start = Instant::now();
+        match side {
+            "source" => player.probe_serve(&mut stage.memory, addresses, &mut mixes),
+            "port" => assert_eq!(port::serve(serve, &mut lent), 0),
+            "record" => assert_eq!(port::reread(lent.lane.len(), &mut lent.record), 0),
+            _ => return Err(format!("neither source nor port: {side}")),
+        }
+        time += start.elapsed();
+        black_box((&player, &lent, &mixes));
     }
     Ok((TIMES, time))
 }

@@ -2,9 +2,10 @@
 //! and a count; each wrapper tests what its function requires. those on
 //! numbers alone go by the kinds of the crate number_jobs.
 
-use cases::Mixed;
 use cases::configuring::{COEFFICIENTS, CONFIGURATION, RECORD};
 use cases::listing::{INPUT_ROOM, OUTPUT_ROOM};
+use cases::serving::{Lent, STATUS, Serve};
+use cases::{Mixed, VALUES};
 
 unsafe extern "C" {
     safe fn yinzhor_number(kind: u32, a: u64, b: u64, c: u64) -> u64;
@@ -51,6 +52,23 @@ unsafe extern "C" {
         base: u32,
         lane: *mut i16,
         lane_len: usize,
+    ) -> u8;
+    fn yinzhor_reread(lane: usize, record: *mut u8) -> u8;
+    fn yinzhor_serve(
+        record: *mut u8,
+        lane: *mut i16,
+        lane_len: usize,
+        configuration: *mut u8,
+        configuration_len: usize,
+        coefficients: *const u8,
+        coefficients_len: usize,
+        window: *const u8,
+        window_len: usize,
+        base: u32,
+        mixes: *mut i32,
+        mixes_len: usize,
+        status: *mut u8,
+        status_len: usize,
     ) -> u8;
 
     fn yinzhor_mixer_tick(
@@ -260,4 +278,36 @@ pub fn record(lane: u32, record: &mut [u8]) -> u8 {
 pub fn play(record: &mut [u8], window: &[u8], base: u32, lane: &mut [i16]) -> u8 {
     assert_eq!(record.len(), RECORD);
     unsafe { yinzhor_play(record.as_mut_ptr(), window.as_ptr(), window.len(), base, lane.as_mut_ptr(), lane.len()) }
+}
+
+/// serves one voice's frame over what it is given, its record in bytes.
+pub fn serve(given: &Serve, lent: &mut Lent) -> u8 {
+    let Lent { record, lane, configuration, status, mixes } = lent;
+    let Serve { base, window, coefficients, .. } = given;
+    assert_eq!((record.len(), configuration.len(), coefficients.len()), (RECORD, CONFIGURATION, COEFFICIENTS));
+    assert_eq!((status.len(), mixes.len()), (STATUS, VALUES));
+    unsafe {
+        yinzhor_serve(
+            record.as_mut_ptr(),
+            lane.as_mut_ptr(),
+            lane.len(),
+            configuration.as_mut_ptr(),
+            configuration.len(),
+            coefficients.as_ptr(),
+            coefficients.len(),
+            window.as_ptr(),
+            window.len(),
+            *base,
+            mixes.as_mut_ptr(),
+            mixes.len(),
+            status.as_mut_ptr(),
+            status.len(),
+        )
+    }
+}
+
+/// what `serve` does besides serving.
+pub fn reread(lane: usize, record: &mut [u8]) -> u8 {
+    assert_eq!(record.len(), RECORD);
+    unsafe { yinzhor_reread(lane, record.as_mut_ptr()) }
 }

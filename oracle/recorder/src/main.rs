@@ -10,6 +10,7 @@ mod memory;
 mod mixer;
 mod numbers;
 mod playing;
+mod serving;
 mod voices;
 
 use std::path::Path;

@@ -1,4 +1,4 @@
-//! the voices' part: configurations, filters, and frames played.
+//! the voices' part: configurations, filters, frames played, frames served.
 
 use cases::Random;
 use cases::configuring::{FILTERS, FLAGS, Job, KIND_FILTERS, at_seven, not_numbers, record_of, voice_of};
@@ -9,6 +9,7 @@ use zakuro_core::services::dsp_voices::{
 
 use crate::Replay;
 use crate::playing::playing;
+use crate::serving::serving;
 
 /// jobs and answers as the crate run_voice has them.
 pub fn voices() -> Replay {
@@ -16,6 +17,7 @@ pub fn voices() -> Replay {
     config(&mut Random::new(5), &mut replay);
     filters(&mut Random::new(6), &mut replay);
     playing(&mut Random::new(8), &mut replay);
+    serving(&mut Random::new(9), &mut replay);
     replay
 }
 
