@@ -42,26 +42,20 @@ fn amid(sample: i16, queued: usize, gain: f32) -> Serve {
     let window = halves(&[sample; WINDOW / 2]);
     let mut serve = Serve::of(Play::of(&voice, 0x2000_0000, window, vec![1; LANE]));
     serve.lent.mixes.fill(9);
-    serve.lent.status.fill(0xEE);
+    serve.lent.status.fill(255);
     serve
 }
 
-/// writes the configuration of a job over a voice's.
-fn configure(serve: &mut Serve, job: &Job) {
-    serve.lent.configuration.copy_from_slice(&job.configuration);
-}
-
-/// adds a frame whose mixes begin with one number, as the crate serve_answers
-/// has it, with its number and what it came to.
+/// adds a frame as the crate serve_answers has it, with its number and what it
+/// came to. its mixes begin with one number, its status with 255.
 fn add(replay: &mut Replay, serve: &Serve, number: u8, framed: &Framed) {
     let first = serve.lent.mixes[0];
     assert!(serve.window.len() == WINDOW && serve.lent.lane.len() == LANE);
     assert!(serve.lent.mixes.iter().all(|value| *value == first));
+    assert!(serve.lent.status.iter().all(|byte| *byte == 255));
     replay.stdin.extend([KIND_SERVING, serve.base, first as u32].map(u32::to_le_bytes).as_flattened());
     let lent = &serve.lent;
-    for part in
-        [&halves(&lent.lane), &serve.window, &serve.coefficients, &lent.record, &lent.configuration, &lent.status]
-    {
+    for part in [&halves(&lent.lane), &serve.window, &serve.coefficients, &lent.record, &lent.configuration] {
         replay.stdin.extend(part);
     }
     let left = &framed.left;
@@ -109,6 +103,7 @@ fn frames(random: &mut Random) -> Vec<(Serve, u8, Framed)> {
     let frame = |_| {
         run.before();
         let mut serve = run.given();
+        serve.lent.status.fill(255);
         serve.lent.mixes.fill(random.word() as i32);
         let number = serve.job().number();
         let framed = run.frame(number, &serve);
@@ -129,7 +124,7 @@ fn by_hand(random: &mut Random, replay: &mut Replay) {
         job.flag(EMBEDDED);
         job.format(code);
         job.embedded(length as u32);
-        configure(&mut serve, &job);
+        serve.lent.configuration.copy_from_slice(&job.configuration);
         let framed = alone(replay, &serve, number);
         assert!(framed.left.mixes.iter().all(|value| *value == if number == 0 { 59 } else { 9 }));
     }
