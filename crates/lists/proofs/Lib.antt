@@ -4,5 +4,6 @@ pub mod Fill
 pub mod Lowest
 pub mod Some
 pub mod Splice
+pub mod Joined
 pub mod Tabulate
 pub mod Walk

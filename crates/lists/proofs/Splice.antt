@@ -7,7 +7,7 @@ use Prim.Native.Nat.{ℕ, zero, suc, _+_, _-_, _≤_, _<_}
 use native.Mathlib.Nat.{add-sub-of-le}
 use native.Mathlib.Decide.{decLt}
 use native.Mathlib.Omega.{arith}
-use lib.ListN.{length, getD, take, drop, set, length-take, length-drop, drop-of-length-le}
+use lib.ListN.{length, getD, take, drop, set, length-take, length-drop, drop-of-length-le, take-append-drop}
 use lib.Seq.{sets, sets-eq, length-sets, length-take-le, take-at, drop-at, drop-drop, drop-set-lt, drop-set-add, take-set-le, getD-take}
 use lib.Seq.{getD-drop, drop-length}
 use Rattle.lists.specs.Splice.{part, splice}
@@ -111,6 +111,18 @@ module _ {A : Type 0} where
       ap (λ r. take (length new) (drop a r)) (splice-is l a new h)
       ∙ ap (take (length new)) (drop-at (take a l) (new ++ drop (a + length new) l) a (length-take-le a l (omega arith)))
       ∙ take-at new (drop (a + length new) l) (length new) refl
+
+  -- a part put where it stands changes nothing
+  pub splice-own : (a n : ℕ) (l : List A) → a + n ≤ length l → splice l a (part a n l) ≡ l
+  splice-own a n l h =
+      splice-is l a (part a n l) (omega (arith, q))
+      ∙ ap (λ (m : ℕ). take a l ++ (part a n l ++ drop (a + m) l)) q
+      ∙ ap (λ (r : List A). take a l ++ (part a n l ++ r)) (sym (drop-drop n a l))
+      ∙ ap (λ (r : List A). take a l ++ r) (take-append-drop n (drop a l))
+      ∙ take-append-drop a l
+    where
+      q : length (part a n l) ≡ n
+      q = length-part a n l h
 
   -- ---- what a part lent on leaves
 

@@ -1,3 +1,4 @@
+pub mod Joined
 pub mod Lowest
 pub mod Some
 pub mod Splice

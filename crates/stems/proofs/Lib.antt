@@ -1,0 +1,11 @@
+pub mod Orders
+pub mod Lanes
+pub mod Later
+pub mod Shape
+pub mod Serve
+pub mod Turns
+pub mod Blocks
+pub mod Accept
+pub mod Whole
+pub mod Stems
+pub mod Exist

@@ -1,0 +1,4 @@
+pub mod Memory
+pub mod Call
+pub mod Whole
+pub mod Stems

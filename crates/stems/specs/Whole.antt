@@ -1,0 +1,91 @@
+-- What a call for all voices leaves, whatever the order in which it takes them: each voice's answer in memory as the call finds it, put
+-- where that voice's own lies. Assumes nothing: these are definitions and statements; `every-order` and `whole-served` of proofs/Whole.antt
+-- prove the two.
+use mathlib.Core.Path.{_≡_}
+use Prim.Native.Nat.{ℕ, zero, suc, _<_}
+use mathlib.Core.Bool.{Bool, true, false, not}
+use mathlib.Core.List.{List, [], _∷_, List·Permᴰ}
+use lib.IntN.{ℤ}
+use lib.ListN.{length}
+use Rattle.lists.specs.Joined.{joined}
+use Rattle.lists.specs.Splice.{splice}
+use Rattle.lists.specs.Tabulate.{tabulate}
+use Rattle.numbers.specs.Sizes.{MIXES}
+use Rattle.numbers.specs.Wrap.{wrap32}
+use Rattle.fields.specs.Fields.{configuration, status, total}
+use Rattle.voice_frame.specs.VoiceFrame.{Answer, served, refused, numberOf, voiceAfter, laneAfter, configurationAfter, statusAfter}
+use Rattle.stems.specs.declared.Fixed.{Fixed}
+use Rattle.stems.specs.Memory.{VOICES, Memory, Lent, Typed, laneLength, laneOf, recordOf, itsConfiguration, itsStatus, bytesOf}
+use Rattle.stems.specs.Call.{secondRead, answer, adds, Refusal, noted, wholeNumber, called, allVoices, AllServed, sumOf}
+
+-- what a served voice is given is as long as its places: a lane of L samples, and the bytes of a configuration and of a status
+unfoldable pub LongAs : ℕ → Answer → Type 0
+LongAs L (served g) =
+    (length (g .lane) ≡ L) × (length (g .configuration) ≡ total configuration) × (length (g .status) ≡ total status)
+LongAs L (refused n) = Unit {0}
+
+-- and so of every voice in this memory
+abbrev pub Long : Fixed → Bool → Memory → Type 0
+Long fx second m = (v : ℕ) → v < VOICES → LongAs (laneLength (length (m .lanes))) (answer fx second v m)
+
+module _ (fx : Fixed) (m : Memory) where
+  -- what voice v is answered: "served, modules 2 to 6 give v's record, lane, configuration and status bytes and what it adds. Refused, all
+  -- stays and v adds 0 to every mix value"
+  abbrev pub gets : ℕ → Answer
+  gets v = answer fx (secondRead (fx .layout) m) v m
+
+  -- the region that is read, with every voice's configuration, and the other one, with every voice's status
+  unfoldable pub regionLeft : Bool → List ℕ → List ℕ
+  regionLeft true region =
+      splice region (fx .layout .configurations)
+      (joined VOICES (λ v. configurationAfter (gets v) (bytesOf (fx .layout) v itsConfiguration region)))
+  regionLeft false region =
+      splice region (fx .layout .statuses) (joined VOICES (λ v. statusAfter (gets v) (bytesOf (fx .layout) v itsStatus region)))
+
+  unfoldable pub memoryLeft : Memory
+  memoryLeft = record {
+    region0 = regionLeft (not (secondRead (fx .layout) m)) (m .region0);
+    region1 = regionLeft (secondRead (fx .layout) m) (m .region1);
+    window = m .window;
+    records = tabulate (λ v. voiceAfter (gets v) (recordOf v (m .records))) VOICES;
+    lanes = joined VOICES (λ v. laneAfter (gets v) (laneOf v (m .lanes)));
+  }
+
+  -- "Mix sums wrap and start from 0 in each call"
+  unfoldable pub mixesLeft : List ℤ
+  mixesLeft = tabulate (λ i. wrap32 (sumOf VOICES (λ v. adds (gets v) i))) MIXES
+
+-- what a call with this number leaves: with 0 the above, with another all as it was
+unfoldable pub leaves : ℕ → Fixed → Lent → Lent
+leaves zero fx x = record { memory = memoryLeft fx (x .memory); mixes = mixesLeft fx (x .memory) }
+leaves (suc n) fx x = x
+
+-- the voices of a list that are refused, in its order, each with its number
+unfoldable pub refusedOf : (ℕ → ℕ) → List ℕ → List Refusal
+refusedOf number [] = []
+refusedOf number (v ∷ vs) = noted v (number v) (refusedOf number vs)
+
+-- the refused voices of a call with this number that takes the voices in this order
+unfoldable pub refusals : ℕ → Fixed → Lent → List ℕ → List Refusal
+refusals zero fx x order = refusedOf (λ v. numberOf (gets fx (x .memory) v)) order
+refusals (suc n) fx x order = []
+
+-- The list of refused voices: "A call may serve in any order that takes each voice once, and the list follows that order". The order is
+-- free.
+pub record Listed (fx : Fixed) (x : Lent) (rs : List Refusal) : Type 0 where
+  pub order : List ℕ
+  pub each-once : List·Permᴰ order allVoices
+  pub is : rs ≡ refusals (wholeNumber fx x) fx x order
+
+-- Every order of serving leaves the same memory and mixes.
+abbrev pub EveryOrder : Type 0
+EveryOrder =
+    (fx : Fixed) (x : Lent) → Typed (x .memory) → (order : List ℕ) → List·Permᴰ order allVoices
+    → called (wholeNumber fx x) fx order x .left ≡ leaves (wholeNumber fx x) fx x
+
+-- What the contract of the call for all voices says is what the theorem on the whole run and the stems asks of such a call: a call that
+-- gives the number, leaves what is to be left and lists the refused voices, as above, is one of the calls of `AllServed`.
+abbrev pub ContractIsCall : Type 0
+ContractIsCall =
+    (fx : Fixed) (x : Lent) → Typed (x .memory) → (left : Lent) (rs : List Refusal) → left ≡ leaves (wholeNumber fx x) fx x
+    → Listed fx x rs → AllServed fx x (record { code = wholeNumber fx x; refusals = rs; left = left })

@@ -1,0 +1,5 @@
+pub mod Rooms
+pub mod Back
+pub mod Turns
+pub mod Numbers
+pub mod Listed

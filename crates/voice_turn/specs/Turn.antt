@@ -1,0 +1,96 @@
+-- What one voice's turn makes of each thing that is lent, and how a call begins. Assumes nothing: these are definitions.
+use mathlib.Core.Path.{_≡_}
+use Prim.Native.Nat.{ℕ, _+_, _*_, _≤_}
+use mathlib.Core.Bool.{Bool, not}
+use mathlib.Core.List.{List, []}
+use lib.Dec.{eqb}
+use lib.IntN.{ℤ}
+use Rattle.lists.specs.Splice.{splice}
+use Rattle.fields.specs.Fields.{configuration, status, total}
+use Rattle.numbers.specs.Sizes.{MIXES}
+use Rattle.little.specs.Little.{at16}
+use Rattle.layout.specs.declared.Layout.{Layout}
+use Rattle.region.specs.Choice.{chosen}
+use Rattle.adpcm.specs.Sizes.{mostSamples}
+use Rattle.settings.specs.Steps.{coefficientBytes}
+use Rattle.voice.specs.declared.record.Voice.{Voice}
+use Rattle.voice_frame.specs.VoiceFrame.{Answer, served, refused, voiceFrame, numberOf, voiceAfter, mixesAfter}
+use Rattle.stems.specs.Memory.{VOICES, laneLength, laneAt}
+use Rattle.stems.specs.Call.{Lengths, lengthsNumber, fedWith, written}
+use Rattle.stems.specs.declared.Fixed.{Fixed}
+use Rattle.voice_turn.specs.Refused.{listed, refusedAfter}
+use Rattle.voice_turn.specs.declared.turn.Taken.{Taken}
+use Rattle.voice_turn.specs.declared.turn.Turn.{Turn}
+
+abbrev pub lengthsOf : ℕ → ℕ → ℕ → ℕ → ℕ → Lengths
+lengthsOf records region0 region1 window lanes = record {
+  region0 = region0;
+  region1 = region1;
+  window = window;
+  records = records;
+  lanes = lanes;
+}
+
+-- none of 1 to 6 applies to so much lent, with 24 records
+abbrev pub Fitting : Fixed → ℕ → ℕ → ℕ → ℕ → ℕ → Type 0
+Fitting fx region0 region1 window lanes mixes = lengthsNumber fx (lengthsOf VOICES region0 region1 window lanes) mixes ≡ 0
+
+-- ---- how a call begins
+
+-- the frame counter lies in both regions
+pub record Counted (fx : Fixed) (region0 region1 : ℕ) : Type 0 where
+  pub in0 : fx .layout .«frame_counter» + 2 ≤ region0
+  pub in1 : fx .layout .«frame_counter» + 2 ≤ region1
+
+unfoldable pub beginning : Fixed → List ℕ → List ℕ → Turn
+beginning fx region0 region1 = record {
+  second = eqb (chosen (at16 region0 (fx .layout .«frame_counter»)) (at16 region1 (fx .layout .«frame_counter»))) 1;
+  refused = listed [];
+}
+
+-- ---- one voice's turn
+
+-- voice i's own lies in a region read and in the other one of so many bytes, and in so many samples of lanes; the mixes are all there
+pub record Room (l : Layout) (i read other lanes mixes : ℕ) : Type 0 where
+  pub coefficients : l .coefficients + coefficientBytes * i + coefficientBytes ≤ read
+  pub configuration : l .configurations + total configuration * i + total configuration ≤ read
+  pub status : l .statuses + total status * i + total status ≤ other
+  pub lane : i * laneLength lanes + laneLength lanes ≤ lanes
+  pub short : laneLength lanes ≤ mostSamples
+  pub all : mixes ≡ MIXES
+
+-- what voice i with this record is answered
+unfoldable pub answerTo : Fixed → Bool → ℕ → Voice → List ℕ → List ℕ → List ℕ → List ℤ → Answer
+answerTo fx second i v region0 region1 window lanes = voiceFrame (fedWith fx second i v region0 region1 window lanes)
+
+-- a region after an answer, where it is read or not: "Refused, all stays"
+unfoldable pub regionBy : Layout → ℕ → Answer → Bool → List ℕ → List ℕ
+regionBy l i (served g) read region = written l i g read region
+regionBy l i (refused n) read region = region
+
+unfoldable pub lanesWith : ℕ → Answer → List ℤ → List ℤ
+lanesWith i (served g) lanes = splice lanes (laneAt i lanes) (g .lane)
+lanesWith i (refused n) lanes = lanes
+
+module _
+    (v : Voice) (i : ℕ) (t : Turn) (fx : Fixed) (region0 region1 window : List ℕ) (lanes mixes : List ℤ) where
+  abbrev pub answered : Answer
+  answered = answerTo fx (t .second) i v region0 region1 window lanes
+
+  unfoldable pub takenBy : Taken
+  takenBy = record {
+    v = voiceAfter answered v;
+    turn = record { second = t .second; refused = refusedAfter i (numberOf answered) (t .refused) };
+  }
+
+  unfoldable pub region0By : List ℕ
+  region0By = regionBy (fx .layout) i answered (not (t .second)) region0
+
+  unfoldable pub region1By : List ℕ
+  region1By = regionBy (fx .layout) i answered (t .second) region1
+
+  unfoldable pub lanesBy : List ℤ
+  lanesBy = lanesWith i answered lanes
+
+  unfoldable pub mixesBy : List ℤ
+  mixesBy = mixesAfter answered mixes

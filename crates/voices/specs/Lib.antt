@@ -1,3 +1,0 @@
-pub mod Memory
-pub mod Call
-pub mod Stems
