@@ -57,8 +57,11 @@ pub refusals-few : (fx : Fixed) (second : Bool) (vs : List ℕ) (m : Memory) →
 unfolding refusalsIn
 refusals-few fx second [] m = omega arith
 refusals-few fx second (w ∷ ws) m =
-    omega (arith, noted-one w (numberOf (answer fx second w m)) (refusalsIn fx second ws (serve fx second w m)),
-    refusals-few fx second ws (serve fx second w m))
+    omega (
+      arith,
+      noted-one w (numberOf (answer fx second w m)) (refusalsIn fx second ws (serve fx second w m)),
+      refusals-few fx second ws (serve fx second w m),
+    )
 
 pub up-long : (n : ℕ) → length (upTo n) ≡ n
 unfolding upTo

@@ -1,0 +1,148 @@
+// The call for all voices over lent records.
+use stems::Fixed;
+use voice::record::Voice;
+use voice_turn::begin::begin;
+use voice_turn::refusal::lengths_number;
+use voice_turn::refusal::worse;
+use voice_turn::refused::Returned;
+use voice_turn::refused::refuse;
+use voice_turn::turn::Turn;
+use voice_turn::turn::finish;
+use voice_turn::turn::take_turn;
+ghost use mathlib.Core.Path.{_≡_};
+ghost use Prim.Native.Nat.{ℕ, _<_, _≤_};
+ghost use lib.ListN.{length, set, getD};
+ghost use Rattle.lists.specs.Some.{some};
+ghost use Rattle.stems.specs.Call.{wholeNumber};
+ghost use Rattle.stems.specs.Memory.{VOICES, laneLength};
+ghost use Rattle.stems.specs.Whole.{LongAs};
+ghost use Rattle.voice.specs.Blank.{defaultVoice};
+ghost use Rattle.voice.specs.Malformed.{malformed, WellFormed};
+ghost use Rattle.voice_turn.specs.Turn.{Fitting, answerTo, takenBy, region0By, region1By, lanesBy, mixesBy};
+ghost use Rattle.voices.specs.Inner.{LongAt, AllFormed, ticked};
+ghost use Rattle.voices.specs.Tick.{lent, left, RefusedBy};
+
+fn serve_at(
+    voices: &mut [Voice],
+    i: usize,
+    turn: Turn,
+    fixed: Fixed,
+    region0: &mut [u8],
+    region1: &mut [u8],
+    window: &[u8],
+    lanes: &mut [i16],
+    mixes: &mut [i32],
+) -> Turn
+    requires { ⌜ (i < length (now voices)) × (i < VOICES) × (turn .refused .count ≤ i)
+        × WellFormed (laneLength (length (now lanes))) (getD (now voices) i defaultVoice)
+        × Fitting fixed (length (now region0)) (length (now region1)) (length (now window)) (length (now lanes)) (length (now mixes)) ⌝ }
+    ensures { λ r. ⌜ (r ≡ takenBy (getD (now (voices .entry)) i defaultVoice) i turn fixed (now (region0 .entry)) (now (region1 .entry)) (now (window .entry)) (now (lanes .entry)) (now (mixes .entry)) .turn)
+        × (now (voices .exit) ≡ set (now (voices .entry)) i (takenBy (getD (now (voices .entry)) i defaultVoice) i turn fixed (now (region0 .entry)) (now (region1 .entry)) (now (window .entry)) (now (lanes .entry)) (now (mixes .entry)) .v))
+        × (now (region0 .exit) ≡ region0By (getD (now (voices .entry)) i defaultVoice) i turn fixed (now (region0 .entry)) (now (region1 .entry)) (now (window .entry)) (now (lanes .entry)) (now (mixes .entry)))
+        × (now (region1 .exit) ≡ region1By (getD (now (voices .entry)) i defaultVoice) i turn fixed (now (region0 .entry)) (now (region1 .entry)) (now (window .entry)) (now (lanes .entry)) (now (mixes .entry)))
+        × (now (lanes .exit) ≡ lanesBy (getD (now (voices .entry)) i defaultVoice) i turn fixed (now (region0 .entry)) (now (region1 .entry)) (now (window .entry)) (now (lanes .entry)) (now (mixes .entry)))
+        × (now (mixes .exit) ≡ mixesBy (getD (now (voices .entry)) i defaultVoice) i turn fixed (now (region0 .entry)) (now (region1 .entry)) (now (window .entry)) (now (lanes .entry)) (now (mixes .entry)))
+        × LongAs (laneLength (length (now (lanes .entry)))) (answerTo fixed (turn .second) i (getD (now (voices .entry)) i defaultVoice) (now (region0 .entry)) (now (region1 .entry)) (now (window .entry)) (now (lanes .entry))) ⌝ }
+{
+    let v = voices[i];
+    let out = take_turn(v, i, turn, fixed, region0, region1, window, lanes, mixes);
+    voices[i] = out.v;
+    out.turn
+}
+
+fn serve_all(
+    voices: &mut [Voice],
+    start: Turn,
+    fixed: Fixed,
+    region0: &mut [u8],
+    region1: &mut [u8],
+    window: &[u8],
+    lanes: &mut [i16],
+    mixes: &mut [i32],
+) -> Turn
+    requires { ⌜ (length (now voices) ≡ VOICES) × (start .refused .count ≡ 0) × AllFormed (laneLength (length (now lanes))) (now voices)
+        × Fitting fixed (length (now region0)) (length (now region1)) (length (now window)) (length (now lanes)) (length (now mixes)) ⌝ }
+    ensures { λ r. ⌜ (r ≡ ticked fixed (now (window .entry)) (length (now (voices .entry))) (now (voices .entry)) (now (region0 .entry)) (now (region1 .entry)) (now (lanes .entry)) (now (mixes .entry)) start .turn)
+        × (now (voices .exit) ≡ ticked fixed (now (window .entry)) (length (now (voices .entry))) (now (voices .entry)) (now (region0 .entry)) (now (region1 .entry)) (now (lanes .entry)) (now (mixes .entry)) start .voices)
+        × (now (region0 .exit) ≡ ticked fixed (now (window .entry)) (length (now (voices .entry))) (now (voices .entry)) (now (region0 .entry)) (now (region1 .entry)) (now (lanes .entry)) (now (mixes .entry)) start .region0)
+        × (now (region1 .exit) ≡ ticked fixed (now (window .entry)) (length (now (voices .entry))) (now (voices .entry)) (now (region0 .entry)) (now (region1 .entry)) (now (lanes .entry)) (now (mixes .entry)) start .region1)
+        × (now (lanes .exit) ≡ ticked fixed (now (window .entry)) (length (now (voices .entry))) (now (voices .entry)) (now (region0 .entry)) (now (region1 .entry)) (now (lanes .entry)) (now (mixes .entry)) start .lanes)
+        × (now (mixes .exit) ≡ ticked fixed (now (window .entry)) (length (now (voices .entry))) (now (voices .entry)) (now (region0 .entry)) (now (region1 .entry)) (now (lanes .entry)) (now (mixes .entry)) start .mixes)
+        × ((j : ℕ) → j < length (now (voices .entry)) → LongAt fixed (now (window .entry)) j (ticked fixed (now (window .entry)) j (now (voices .entry)) (now (region0 .entry)) (now (region1 .entry)) (now (lanes .entry)) (now (mixes .entry)) start)) ⌝ }
+{
+    let mut turn = start;
+    let mut i = 0;
+    while i < voices.len() {
+        turn = serve_at(
+            voices,
+            i,
+            turn,
+            fixed,
+            region0,
+            region1,
+            window,
+            lanes,
+            mixes,
+        );
+        i += 1;
+    }
+    turn
+}
+
+fn any_malformed(voices: &[Voice], lanes: usize) -> bool
+    ensures { λ r. ⌜ r ≡ some (malformed (laneLength lanes)) (now (voices .entry)) ⌝ }
+{
+    let mut bad = false;
+    let mut i = 0;
+    while i < voices.len() {
+        let v = voices[i];
+        bad = worse(bad, v, lanes);
+        i += 1;
+    }
+    bad
+}
+
+pub fn tick(
+    voices: &mut [Voice],
+    fixed: Fixed,
+    region0: &mut [u8],
+    region1: &mut [u8],
+    window: &[u8],
+    lanes: &mut [i16],
+    mixes: &mut [i32],
+) -> Returned
+    ensures { λ r. ⌜ (r .number ≡ wholeNumber fixed
+        (lent (now (region0 .entry)) (now (region1 .entry)) (now (window .entry)) (now (voices .entry)) (now (lanes .entry)) (now (mixes .entry))))
+        × (now (voices .exit) ≡ left fixed
+        (lent (now (region0 .entry)) (now (region1 .entry)) (now (window .entry)) (now (voices .entry)) (now (lanes .entry)) (now (mixes .entry))) .memory .records)
+        × (now (region0 .exit) ≡ left fixed
+        (lent (now (region0 .entry)) (now (region1 .entry)) (now (window .entry)) (now (voices .entry)) (now (lanes .entry)) (now (mixes .entry))) .memory .region0)
+        × (now (region1 .exit) ≡ left fixed
+        (lent (now (region0 .entry)) (now (region1 .entry)) (now (window .entry)) (now (voices .entry)) (now (lanes .entry)) (now (mixes .entry))) .memory .region1)
+        × (now (lanes .exit) ≡ left fixed
+        (lent (now (region0 .entry)) (now (region1 .entry)) (now (window .entry)) (now (voices .entry)) (now (lanes .entry)) (now (mixes .entry))) .memory .lanes)
+        × (now (mixes .exit) ≡ left fixed
+        (lent (now (region0 .entry)) (now (region1 .entry)) (now (window .entry)) (now (voices .entry)) (now (lanes .entry)) (now (mixes .entry))) .mixes)
+        × RefusedBy fixed
+        (lent (now (region0 .entry)) (now (region1 .entry)) (now (window .entry)) (now (voices .entry)) (now (lanes .entry)) (now (mixes .entry))) (r .refused) ⌝ }
+{
+    let number = lengths_number(
+        fixed,
+        voices.len(),
+        region0.len(),
+        region1.len(),
+        window.len(),
+        lanes.len(),
+        mixes.len(),
+    );
+    if number != 0 {
+        return refuse(number);
+    }
+    let bad = any_malformed(voices, lanes.len());
+    if bad {
+        return refuse(7);
+    }
+    let start = begin(fixed, region0, region1, mixes);
+    let turn = serve_all(voices, start, fixed, region0, region1, window, lanes, mixes);
+    finish(turn)
+}
