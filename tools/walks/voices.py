@@ -62,3 +62,13 @@ guard = dict(
     malformed_proof=f'malformed-call {at} {{r}} zero-is ({{bad}}) {{e_r}}',
     served_proof=f'served-call {at} zero-is good (e .6) {{turn}} {{vs}} {{region0}} {{region1}} {{lanes}} {{mixes}} (e .0) (e .1) (e .2) (e .3) (e .4) (e .5) {{r}} {{e_r}}',
 )
+# the function by which a program lends its records
+x = '(lent {region0} {region1} {window} {vs} {lanes} {mixes})'
+frame = dict(
+    crate='lending', fn='frame', joined='joined', framed='Framed', count=25,
+    uses=['use Rattle.stems.specs.Call.{wholeNumber}', 'use Rattle.voices.specs.Tick.{lent, left, RefusedBy}', 'use Rattle.voices.proofs.Contract.{Ensured}'],
+    call_clause='Ensured {fixed} {region0} {region1} {window} {vs} {lanes} {mixes} {r} {vs_last} {region0_last} {region1_last} {lanes_last} {mixes_last}',
+    clause=f'({{r}} .answer .number ≡ wholeNumber fixed {x}) × ({{r}} .vs ≡ left fixed {x} .memory .records ++ back) × ({{region0_last}} ≡ left fixed {x} .memory .region0) × ({{region1_last}} ≡ left fixed {x} .memory .region1) '
+           f'× ({{lanes_last}} ≡ left fixed {x} .memory .lanes) × ({{mixes_last}} ≡ left fixed {x} .mixes) × RefusedBy fixed {x} ({{r}} .answer .refused)',
+    said='ap (λ (a : Returned). a .number) (e-r .1) ∙ e .0, e-r .0 ∙ ap (λ (l : List Voice). l ++ back) (e .1), e .2, e .3, e .4, e .5, subst (λ (a : Returned). RefusedBy fixed (lent (region0 .now) (region1 .now) (window .now) front (lanes .now) (mixes .now)) (a .refused)) (sym (e-r .1)) (e .6)',
+)

@@ -1,5 +1,5 @@
--- `voices::any_malformed` meets its contract: a walk of its MIR, by hand. A loop over a shared slice: in each turn a copy of what the slice
--- owns is looked into, one element is read and put back, and the covered function `worse` is called on it.
+-- `voices::any_malformed` meets its contract: a walk of its MIR, by hand. A loop over a shared slice: in each turn a copy of what
+-- the slice owns is looked into, one element is read and put back, and the covered function `worse` is called on it.
 -- Assumes nothing.
 use mathlib.Core.Path.{_≡_, refl, sym, _∙_, ap, subst}
 use Prim.Native.Nat.{ℕ, zero, suc, _<_, _≤_, _^_, _+_, _*_, _-_, zero-le}
@@ -26,11 +26,11 @@ use prog.Wp.{Heap, Out, Env, afterSeq, afterBlock, afterTurn, Calls, Loops, Wp, 
 use ghost.Atoms.{Atoms, sem}
 use contract.Monad.{Fun, fact}
 use contract.Running.{givenOf, tables, tablesOf}
-use types.Kit.{Given, Item, ‵, raw, some, later, _⊛_, ⋆, runs, anyQ, atRet, Sq, _$_, _∵_, !, qed, by, move, keep, drop, use1, use2, use3}
-use types.Kit.{split, join, pick, rewrite, fsplit, fjoin, feqL, suffices, frame, await, done}
-use types.Run.{look, look-raw, init, store, store-raw, forget, stop, hop, fld, from, load, addr, lit, of-opd, bin, false-lit, and-then}
-use types.Run.{no-more, assigns, assigns-last, first, blocks, land, returns, enter, alloc1, alloc0, params1, pass1, pass0, free1, free0}
-use types.Run.{exec, Below, again, loops}
+use types.Kit.{Given, Item, ‵, raw, some, later, _⊛_, ⋆, runs, anyQ, atRet, Sq, _$_, _∵_, !, qed, by, move, keep, drop, use1}
+use types.Kit.{use2, use3, split, join, pick, rewrite, fsplit, fjoin, feqL, suffices, frame, await, done}
+use types.Run.{look, look-raw, init, store, store-raw, forget, stop, hop, fld, from, load, addr, lit, of-opd, bin, false-lit}
+use types.Run.{and-then, no-more, assigns, assigns-last, first, blocks, land, returns, enter, alloc1, alloc0, params1, pass1}
+use types.Run.{pass0, free1, free0, exec, Below, again, loops}
 use types.Part.{agg, whole, sub, look-in}
 use types.Tokens.{lft-new, lft-end}
 use sound.WpLaws.{FmC, fmOf, WpFn-mono}
@@ -82,7 +82,8 @@ abbrev R : RattleType
 R = T.the-row
 
 -- the contract that the proof cites
-abbrev Callee : {M : Type 1} (𝓤 : URA M) (H : Heap 𝓤) (A : Atoms 𝓤) (at-mem : Memory → SProp 𝓤) (run : Routine → Fun 𝓤) → Contract 𝓤
+abbrev Callee : {M : Type 1} (𝓤 : URA M) (H : Heap 𝓤) (A : Atoms 𝓤) (at-mem : Memory → SProp 𝓤) (run : Routine → Fun 𝓤) →
+    Contract 𝓤
 Callee 𝓤 H A at-mem run = tripleOf 𝓤 H A worse.signature (worse.spec 𝓤 H A at-mem run)
 
 abbrev word : Ty
@@ -97,88 +98,89 @@ abbrev stayed : Stays (f.ended .signature .params) (f.ended .kept)
 stayed = (stay-none-slice (0 ∷ []) tt (plain (λ _. R)) yes, (stay-none (λ _. usize) yes, tt))
 
 module _ {M : Type 1} (𝓤 : URA M) (H : Heap 𝓤) (A : Atoms 𝓤) (W : Given 𝓤 H A) (at-mem : Memory → SProp 𝓤) (run : Routine → Fun 𝓤)
-    (κ : Lft) (q : Share) (b o : ℕ) (γ : GName) (ys : List Voice) (lanes : ℕ) (lanes-fits : lanes < 2 ^ 64) (room : Room R (length ys))
-  where
-    abbrev x : RefT (List Voice)
-    x = record { ptr = (b, o); name = γ; now = ys }
+    (κ : Lft) (q : Share) (b o : ℕ) (γ : GName) (ys : List Voice) (lanes : ℕ) (lanes-fits : lanes < 2 ^ 64) (room : Room R
+    (length ys)) where
+  abbrev x : RefT (List Voice)
+  x = record { ptr = (b, o); name = γ; now = ys }
 
-    abbrev n : ℕ
-    n = length ys
+  abbrev n : ℕ
+  n = length ys
 
-    abbrev s : Val
-    s = sliceVal (b, o) n
+  abbrev s : Val
+  s = sliceVal (b, o) n
 
-    abbrev Arg : Type 0
-    Arg = RefT (List Voice) × (ℕ × Unit {0})
+  abbrev Arg : Type 0
+  Arg = RefT (List Voice) × (ℕ × Unit {0})
 
-    abbrev a : Arg
-    a = (x, (lanes, tt))
+  abbrev a : Arg
+  a = (x, (lanes, tt))
 
-    abbrev vals : List Val × (List Val × Unit {0})
-    vals = (s ∷ [], (vint w64 lanes ∷ [], tt))
+  abbrev vals : List Val × (List Val × Unit {0})
+  vals = (s ∷ [], (vint w64 lanes ∷ [], tt))
 
-    -- what is carried after i elements
-    abbrev st : ℕ → Bool
-    st i = anyUpTo lanes i ys
+  -- what is carried after i elements
+  abbrev st : ℕ → Bool
+  st i = anyUpTo lanes i ys
 
-    abbrev mach : Voice → Val
-    mach v = LL.val T.the-type T′.the-laws v
+  abbrev mach : Voice → Val
+  mach v = LL.val T.the-type T′.the-laws v
 
-    byte-fits : (i : ℕ) → i < n → i * mem R .size < 2 ^ 64
-    byte-fits i within = omega (arith, within, room .1)
+  byte-fits : (i : ℕ) → i < n → i * mem R .size < 2 ^ 64
+  byte-fits i within = omega (arith, within, room .1)
 
-    abbrev Own : Fml
-    Own = ShrSlice (named 0) κ R .own x (s ∷ [])
+  abbrev Own : Fml
+  Own = ShrSlice (named 0) κ R .own x (s ∷ [])
 
-    abbrev Post : Val → SProp 𝓤
-    Post = walkOf 𝓤 H A f.ended stayed (f.clauses 𝓤 H A at-mem run) .post (((κ, tt), (q, tt), tt, a, vals), tt)
+  abbrev Post : Val → SProp 𝓤
+  Post = walkOf 𝓤 H A f.ended stayed (f.clauses 𝓤 H A at-mem run) .post (((κ, tt), (q, tt), tt, a, vals), tt)
 
-    -- the variant: i with i ≤ n, ordered by what is left
-    abbrev Upto : Type 0
-    Upto = (i : ℕ) × (i ≤ n)
+  -- the variant: i with i ≤ n, ordered by what is left
+  abbrev Upto : Type 0
+  Upto = (i : ℕ) × (i ≤ n)
 
-    abbrev Nearer : Upto → Upto → Type 0
-    Nearer j i = n - j .0 < n - i .0
+  abbrev Nearer : Upto → Upto → Type 0
+  Nearer j i = n - j .0 < n - i .0
 
-    Nearer-wf : WellFounded Nearer
-    Nearer-wf = InvImage·wf (λ (i : Upto). n - i .0) (Nat·lt-wfRel .wf)
+  Nearer-wf : WellFounded Nearer
+  Nearer-wf = InvImage·wf (λ (i : Upto). n - i .0) (Nat·lt-wfRel .wf)
 
-    exits : (i : Upto) → i .0 ≡ n → ent 𝓤 (⋆ 𝓤 H A (‵ Own ∷ ‵ (flft κ q) ∷ [])) (Post (vbool (st (i .0))))
-    exits i e =
-        qed W (‵ Own ∷ ‵ (flft κ q) ∷ []) ∵
-        suffices ! _ (ends-at 𝓤 H A f.ended stayed (f.clauses 𝓤 H A at-mem run) W (((κ, tt), (q, tt), tt, a, vals), tt) (vbool (st (i .0)))
-        (st (i .0)) (tt, (tt, tt)) (tt, (tt, tt))) $
-        says ! (ap st e ∙ any-is lanes ys) $
-        nothing ! $ move ! (2 ∷ 0 ∷ []) $ join ! $ frame ! $ nothing ! $
-        owned ! usize (Is usize) (uint-makes 𝓤 H A W w64) lanes _ (refl, lanes-fits) $
-        fjoin ! $ move ! (1 ∷ 0 ∷ []) $ fjoin ! $
-        owned ! Boolean (Is Boolean) (bool-makes 𝓤 H A W) (st (i .0)) _ refl $
-        move ! (1 ∷ 0 ∷ []) $
-        done !
+  exits : (i : Upto) → i .0 ≡ n → ent 𝓤 (⋆ 𝓤 H A (‵ Own ∷ ‵ (flft κ q) ∷ [])) (Post (vbool (st (i .0))))
+  exits i e =
+      qed W (‵ Own ∷ ‵ (flft κ q) ∷ []) ∵
+      suffices ! _ (ends-at 𝓤 H A f.ended stayed (f.clauses 𝓤 H A at-mem run) W (((κ, tt), (q, tt), tt, a, vals), tt) (vbool (st
+      (i .0))) (st (i .0)) (tt, (tt, tt)) (tt, (tt, tt))) $
+      says ! (ap st e ∙ any-is lanes ys) $
+      nothing ! $ move ! (2 ∷ 0 ∷ []) $ join ! $ frame ! $ nothing ! $
+      owned ! usize (Is usize) (uint-makes 𝓤 H A W w64) lanes _ (refl, lanes-fits) $
+      fjoin ! $ move ! (1 ∷ 0 ∷ []) $ fjoin ! $
+      owned ! Boolean (Is Boolean) (bool-makes 𝓤 H A W) (st (i .0)) _ refl $
+      move ! (1 ∷ 0 ∷ []) $
+      done !
 
-    -- a call of `worse` after i elements
-    module _ (i : Upto) where
-      abbrev d : Voice
-      d = getD ys (i .0) defaultVoice
+  -- a call of `worse` after i elements
+  module _ (i : Upto) where
+    abbrev d : Voice
+    d = getD ys (i .0) defaultVoice
 
-      abbrev passed : Bool × (Voice × (ℕ × Unit {0}))
-      passed = (st (i .0), (d, (lanes, tt)))
+    abbrev passed : Bool × (Voice × (ℕ × Unit {0}))
+    passed = (st (i .0), (d, (lanes, tt)))
 
-      abbrev passed-vals : List Val × (List Val × (List Val × Unit {0}))
-      passed-vals = (vbool (st (i .0)) ∷ [], (mach d ∷ [], (vint w64 lanes ∷ [], tt)))
+    abbrev passed-vals : List Val × (List Val × (List Val × Unit {0}))
+    passed-vals = (vbool (st (i .0)) ∷ [], (mach d ∷ [], (vint w64 lanes ∷ [], tt)))
 
-      abbrev to-callee : Callee 𝓤 H A at-mem run .Ghost
-      to-callee = ((tt, tt, tt, passed, passed-vals), tt)
+    abbrev to-callee : Callee 𝓤 H A at-mem run .Ghost
+    to-callee = ((tt, tt, tt, passed, passed-vals), tt)
 
-      goes-callee : ent 𝓤 (onEntry 𝓤 H A worse.signature tt tt passed passed-vals) (Callee 𝓤 H A at-mem run .pre to-callee)
-      goes-callee = qed W (‵ ftrue ∷ ‵ (owns (Boolean ∷ R ∷ usize ∷ []) passed passed-vals) ∷ []) ∵ join ! $ frame ! $ done !
+    goes-callee : ent 𝓤 (onEntry 𝓤 H A worse.signature tt tt passed passed-vals) (Callee 𝓤 H A at-mem run .pre to-callee)
+    goes-callee = qed W (‵ ftrue ∷ ‵ (owns (Boolean ∷ R ∷ usize ∷ []) passed passed-vals) ∷ []) ∵ join ! $ frame ! $ done !
 
-      said : (r : Bool) → ent 𝓤 (ensured 𝓤 H A worse.ended (worse.clauses 𝓤 H A at-mem run) tt passed tt r) (fact 𝓤 (r ≡ ((st (i .0)) ||
-          malformed (laneLength lanes) d)))
-      said r = exE 𝓤 _ (λ ws. snd∗ 𝓤 (sem 𝓤 H A (lasts worse.ended tt passed ws)) (fact 𝓤 (r ≡ ((st (i .0)) || malformed (laneLength lanes)
-          d))))
+    said : (r : Bool) → ent 𝓤 (ensured 𝓤 H A worse.ended (worse.clauses 𝓤 H A at-mem run) tt passed tt r) (fact 𝓤 (r ≡ ((st (i
+        .0)) || malformed (laneLength lanes) d)))
+    said r = exE 𝓤 _ (λ ws. snd∗ 𝓤 (sem 𝓤 H A (lasts worse.ended tt passed ws)) (fact 𝓤 (r ≡ ((st (i .0)) || malformed
+        (laneLength lanes) d))))
 
-    module _ (𝓣 : Tables 𝓤 H) (known : Triple 𝓤 (𝓣 .C #voices·worse) (Callee 𝓤 H A at-mem run)) (l₀ l₁ l₂ l₃ l₄ l₅ l₆ l₇ l₈ l₉ : ℕ) where
+  module _ (𝓣 : Tables 𝓤 H) (known : Triple 𝓤 (𝓣 .C #voices·worse) (Callee 𝓤 H A at-mem run)) (l₀ l₁ l₂ l₃ l₄ l₅ l₆ l₇ l₈ l₉ : ℕ)
+    where
       abbrev C : Calls 𝓤 H
       C = 𝓣 .C
 
@@ -186,11 +188,8 @@ module _ {M : Type 1} (𝓤 : URA M) (H : Heap 𝓤) (A : Atoms 𝓤) (W : Given
       Λ = 𝓣 .Λ
 
       abbrev En : Env 𝓤 H
-      En = (tyBool, l₀) ∷ (sliceTy (tyRef (named 0) imm (pointee (R .written))), l₁) ∷ (tyInt w64, l₂) ∷ (tyBool, l₃) ∷ (word, l₄) ∷ (
-        ty-of
-            body.locals 5,
-        l₅,
-      ) ∷ (word, l₆) ∷ (tyBool, l₇) ∷ (tyPtr, l₈) ∷ (ty-of body.locals 9, l₉) ∷ []
+      En = (tyBool, l₀) ∷ (sliceTy (tyRef (named 0) imm (pointee (R .written))), l₁) ∷ (tyInt w64, l₂) ∷ (tyBool, l₃) ∷ (word, l₄)
+          ∷ (ty-of body.locals 5, l₅) ∷ (word, l₆) ∷ (tyBool, l₇) ∷ (tyPtr, l₈) ∷ (ty-of body.locals 9, l₉) ∷ []
 
       abbrev At : Upto → List (Item 𝓤)
       At i = ‵ Own
@@ -219,39 +218,46 @@ module _ {M : Type 1} (𝓤 : URA M) (H : Heap 𝓤) (A : Atoms 𝓤) (W : Given
 
       -- a turn's postcondition: it ends nearer to n, or the loop is left and the rest of the body runs
       abbrev Turned : Upto → Out → SProp 𝓤
-      Turned i = afterTurn 𝓤 H (Below 𝓤 H A Nearer At i) (afterBlock 𝓤 H (afterSeq 𝓤 H (Wp 𝓤 H C Λ En body.t-4 (atReturn 𝓤 H En Post))
-          (atReturn 𝓤 H En Post)))
+      Turned i = afterTurn 𝓤 H (Below 𝓤 H A Nearer At i) (afterBlock 𝓤 H (afterSeq 𝓤 H (Wp 𝓤 H C Λ En body.t-4 (atReturn 𝓤 H En
+          Post)) (atReturn 𝓤 H En Post)))
 
       turns : (i : Upto) → Sq W (At i) (runs C Λ En body.turn-1 (anyQ (Turned i)))
       unfolding afterTurn
       turns i =
           -- [own; κ; _9 (2); _8 (4); _7 (6); _6 (8); _5 (10); _4 (12); _3 (14); _2 (16); _1 (18); _0 (20)]
-          assigns ! (of-opd ! (load ! (from ! (fld ! refl (stop !))) (look-in ! 18 (sub ! 1 refl (whole !))))) (from ! (stop !)) (init ! 8
-          refl (tt, record { fits = room .0 })) $
-          assigns ! (bin ! (load ! (from ! (stop !)) (look ! 12 refl)) (load ! (from ! (stop !)) (look ! 8 refl)) tt) (from ! (stop !)) (init
-          ! 6 refl (tt, tt)) $
+          assigns ! (of-opd ! (load ! (from ! (fld ! refl (stop !))) (look-in ! 18 (sub ! 1 refl (whole !))))) (from ! (stop !))
+          (init ! 8 refl (tt, record { fits = room .0 })) $
+          assigns ! (bin ! (load ! (from ! (stop !)) (look ! 12 refl)) (load ! (from ! (stop !)) (look ! 8 refl)) tt) (from ! (stop
+          !)) (init ! 6 refl (tt, tt)) $
           tests ! (load ! (from ! (stop !)) (look ! 6 refl))
           (λ less.
           assigns ! (bin ! (load ! (from ! (stop !)) (look ! 12 refl)) (big-lit ! (record { fits = lit< tt })) (record {
-            fits = byte-fits (i
-                .0) (in-vs less);
-          })) (from ! (stop !)) (store ! 8 refl (tt, record { fits = byte-fits (i .0) (in-vs less) })) $
-          assigns ! (bin ! (load ! (from ! (fld ! refl (stop !))) (look-in ! 18 (sub ! 0 refl (whole !)))) (load ! (from ! (stop !)) (look !
-          8 refl)) tt) (from ! (stop !)) (init ! 4 refl (tt, tt)) $
+            fits =
+                byte-fits (i .0) (in-vs less);
+          })) (from ! (stop !)) (store ! 8 refl (
+            tt,
+            record {
+              fits = byte-fits (i .0) (in-vs
+                  less);
+            },
+          )) $
+          assigns ! (bin ! (load ! (from ! (fld ! refl (stop !))) (look-in ! 18 (sub ! 0 refl (whole !)))) (load ! (from ! (stop
+          !)) (look ! 8 refl)) tt) (from ! (stop !)) (init ! 4 refl (tt, tt)) $
           rewrite ! 4 (λ (p : ℕ). ‵ (fat fullShare tyPtr l₈ 0 (vptr b p))) (sym (place-is (mem R .size) o (i .0))) refl $
-          -- a copy of what the slice owns is looked into, and the element is taken out [own; κ; _9 (2); _8 (4); _7 (6); _6 (8); _5 (10); _4
-          -- (12); _3 (14); _2 (16); _1 (18); _0 (20)]
+          -- a copy of what the slice owns is looked into, and the element is taken out [own; κ; _9 (2); _8 (4); _7 (6); _6 (8); _5
+          -- (10); _4 (12); _3 (14); _2 (16); _1 (18); _0 (20)]
           use1 W (‵ Own ⊛ ‵ Own) (shr-slice-copy 𝓤 H A W (named 0) κ R .twice x (s ∷ [])) $
           split ! $ fsplit ! $ drop ! $ fsplit ! $ drop ! $ move ! (0 ∷ 2 ∷ []) $
-          looks-slice ! tt R (Is R) (shows 𝓤 H A R) (LL.vals T.the-type T′.the-laws) (LL.tells T.the-type T′.the-laws) (LL.copy T.the-type
-          T′.the-copy 𝓤 H A W) ys b o (λ q′.
-          elem-out ! R (Is R) (shows 𝓤 H A R) (LL.vals T.the-type T′.the-laws) (LL.tells T.the-type T′.the-laws) q′ ys (i .0) defaultVoice b
-          o (in-vs less) (λ is.
-          -- [cell; own-d; others; open; copy; own; _9 (6); _8 (8); _7 (10); _6 (12); _5 (14); _4 (16); _3 (18); _2 (20); _1 (22); _0 (24)]
-          assigns ! (of-opd ! (load ! (from ! (hop ! (look ! 8 refl) (stop !))) (look-raw ! 0 refl))) (from ! (stop !)) (init ! 6 refl
-          (LL.lawful T.the-type T′.the-laws 𝓤 H A W .typed (d i) _ is .0)) $
-          assigns ! (of-opd ! (load ! (from ! (stop !)) (look ! 6 refl))) (from ! (stop !)) (init ! 14 refl (LL.lawful T.the-type T′.the-laws
-          𝓤 H A W .typed (d i) _ is .0)) $
+          looks-slice ! tt R (Is R) (shows 𝓤 H A R) (LL.vals T.the-type T′.the-laws) (LL.tells T.the-type T′.the-laws) (LL.copy
+          T.the-type T′.the-copy 𝓤 H A W) ys b o (λ q′.
+          elem-out ! R (Is R) (shows 𝓤 H A R) (LL.vals T.the-type T′.the-laws) (LL.tells T.the-type T′.the-laws) q′ ys (i .0)
+          defaultVoice b o (in-vs less) (λ is.
+          -- [cell; own-d; others; open; copy; own; _9 (6); _8 (8); _7 (10); _6 (12); _5 (14); _4 (16); _3 (18); _2 (20); _1 (22);
+          -- _0 (24)]
+          assigns ! (of-opd ! (load ! (from ! (hop ! (look ! 8 refl) (stop !))) (look-raw ! 0 refl))) (from ! (stop !)) (init ! 6
+          refl (LL.lawful T.the-type T′.the-laws 𝓤 H A W .typed (d i) _ is .0)) $
+          assigns ! (of-opd ! (load ! (from ! (stop !)) (look ! 6 refl))) (from ! (stop !)) (init ! 14 refl (LL.lawful T.the-type
+          T′.the-laws 𝓤 H A W .typed (d i) _ is .0)) $
           elem-back ! R q′ ys (i .0) defaultVoice (LL.vals T.the-type T′.the-laws (d i)) b o (in-vs less) $
           shuts-slice ! tt R q′ ys b o $ move ! (1 ∷ []) $ drop ! $
           -- what `worse` asks [κ; own; _9 (2); _8 (4); _7 (6); _6 (8); _5 (10); _4 (12); _3 (14); _2 (16); _1 (18); _0 (20)]
@@ -263,11 +269,11 @@ module _ {M : Type 1} (𝓤 : URA M) (H : Heap 𝓤) (A : Atoms 𝓤) (W : Given
           owned ! Boolean (Is Boolean) (bool-makes 𝓤 H A W) (st (i .0)) _ refl $
           fjoin ! $ nothing ! $
           use2 W (raw (Callee 𝓤 H A at-mem run .pre (to-callee i))) (goes-callee i) $
-          calls-at ! (fmOf 𝓤 H (W .laws) 𝓣) (Callee 𝓤 H A at-mem run) known (to-callee i) (and-then ! (load ! (from ! (stop !)) (look ! 15
-          refl)) (and-then ! (load ! (from ! (stop !)) (look ! 11 refl)) (and-then ! (load ! (from ! (stop !)) (look ! 17 refl)) (no-more
-          !)))) (λ u.
-          use1 W (later (some (λ (r : Bool). (‵ ftrue ⊛ ‵ (Boolean .own r (u ∷ []))) ⊛ raw (ensured 𝓤 H A worse.ended (worse.clauses 𝓤 H A
-          at-mem run) tt (passed i) tt r)))) (id⊢ 𝓤 _) $ await ! tt $ pick ! (λ r.
+          calls-at ! (fmOf 𝓤 H (W .laws) 𝓣) (Callee 𝓤 H A at-mem run) known (to-callee i) (and-then ! (load ! (from ! (stop !))
+          (look ! 15 refl)) (and-then ! (load ! (from ! (stop !)) (look ! 11 refl)) (and-then ! (load ! (from ! (stop !)) (look
+          ! 17 refl)) (no-more !)))) (λ u.
+          use1 W (later (some (λ (r : Bool). (‵ ftrue ⊛ ‵ (Boolean .own r (u ∷ []))) ⊛ raw (ensured 𝓤 H A worse.ended
+          (worse.clauses 𝓤 H A at-mem run) tt (passed i) tt r)))) (id⊢ 𝓤 _) $ await ! tt $ pick ! (λ r.
           split ! $ move ! (1 ∷ []) $
           use1 W (raw (fact 𝓤 (r ≡ ((st (i .0)) || malformed (laneLength lanes) (d i))))) (said i r) $
           heard ! (r ≡ ((st (i .0)) || malformed (laneLength lanes) (d i))) (λ e.
@@ -278,18 +284,18 @@ module _ {M : Type 1} (𝓤 : URA M) (H : Heap 𝓤) (A : Atoms 𝓤) (W : Given
           drop ! $
           rewrite ! 14 (λ (t : Bool). ‵ (fat fullShare tyBool l₃ 0 (vbool t))) (e ∙ ap st (sym (add-one (i .0)))) refl $
           -- [κ; own; _9 (2); _8 (4); _7 (6); _6 (8); _5 (10); _4 (12); _3 (14); _2 (16); _1 (18); _0 (20)]
-          assigns-last ! (bin ! (load ! (from ! (stop !)) (look ! 12 refl)) (lit ! tt) (record { fits = fits (next less) })) (from ! (stop
-          !)) (store ! 12 refl (tt, record { fits = fits (next less) })) $
+          assigns-last ! (bin ! (load ! (from ! (stop !)) (look ! 12 refl)) (lit ! tt) (record { fits = fits (next less) })) (from
+          ! (stop !)) (store ! 12 refl (tt, record { fits = fits (next less) })) $
           forget ! 2 refl $ forget ! 4 refl $ forget ! 6 refl $ forget ! 8 refl $ forget ! 10 refl $
           move ! (1 ∷ 0 ∷ []) $
           again ! Nearer At i (next less) (add-one-dec n (i .0) (in-vs less)))))))))
           (λ over. exec ! C Λ En body.t-4 (atRet En Post) $
           assigns ! (of-opd ! (load ! (from ! (stop !)) (look ! 14 refl))) (from ! (stop !)) (init ! 20 refl (tt, tt)) $
-          returns ! (look ! 20 refl) $ forget ! 8 refl $ forget ! 6 refl $ forget ! 18 refl $ forget ! 16 refl $ forget ! 14 refl $ forget !
-          12 refl $ forget ! 20 refl $
-          move ! (20 ∷ 21 ∷ []) $ free1 ! $ move ! (18 ∷ 19 ∷ []) $ free1 ! $ move ! (16 ∷ 17 ∷ []) $ free1 ! $ move ! (14 ∷ 15 ∷ []) $ free1
-          ! $ move ! (12 ∷ 13 ∷ []) $ free1 ! $ move ! (10 ∷ 11 ∷ []) $ free1 ! $ move ! (8 ∷ 9 ∷ []) $ free1 ! $ move ! (6 ∷ 7 ∷ []) $
-          free1 ! $ move ! (4 ∷ 5 ∷ []) $ free1 ! $ move ! (2 ∷ 3 ∷ []) $ free1 ! $ free0 ! $
+          returns ! (look ! 20 refl) $ forget ! 8 refl $ forget ! 6 refl $ forget ! 18 refl $ forget ! 16 refl $ forget ! 14 refl $
+          forget ! 12 refl $ forget ! 20 refl $
+          move ! (20 ∷ 21 ∷ []) $ free1 ! $ move ! (18 ∷ 19 ∷ []) $ free1 ! $ move ! (16 ∷ 17 ∷ []) $ free1 ! $ move ! (14 ∷ 15 ∷
+          []) $ free1 ! $ move ! (12 ∷ 13 ∷ []) $ free1 ! $ move ! (10 ∷ 11 ∷ []) $ free1 ! $ move ! (8 ∷ 9 ∷ []) $ free1 ! $
+          move ! (6 ∷ 7 ∷ []) $ free1 ! $ move ! (4 ∷ 5 ∷ []) $ free1 ! $ move ! (2 ∷ 3 ∷ []) $ free1 ! $ free0 ! $
           by ! (exits i (le-antisymm (i .1) (nltb→le (i .0) n over))))
         where
           fits : (j : Upto) → j .0 < 2 ^ 64
@@ -302,48 +308,51 @@ module _ {M : Type 1} (𝓤 : URA M) (H : Heap 𝓤) (A : Atoms 𝓤) (W : Given
           next less = (i .0 + 1, add-one-le (in-vs less))
 
       loops-from : ent 𝓤 (⋆ 𝓤 H A (At (0, zero-le))) (Wp 𝓤 H C Λ En body.t-3 (atReturn 𝓤 H En Post))
-      loops-from = qed W (At (0, zero-le)) ∵ exec ! C Λ En body.t-3 (atRet En Post) $ first ! $ blocks ! $ loops ! 𝓣 Nearer Nearer-wf At
-          turns (0, zero-le)
+      loops-from = qed W (At (0, zero-le)) ∵ exec ! C Λ En body.t-3 (atRet En Post) $ first ! $ blocks ! $ loops ! 𝓣 Nearer
+          Nearer-wf At turns (0, zero-le)
 
-    -- the MIR, up to the loop
-    walk : (𝓣 : Tables 𝓤 H) → Triple 𝓤 (𝓣 .C #voices·worse) (Callee 𝓤 H A at-mem run) → ent 𝓤 (onEntry 𝓤 H A f.signature (κ, tt) (q, tt) a
-        vals) (WpFn 𝓤 H (𝓣 .C) (𝓣 .Λ) code.function (s ∷ vint w64 lanes ∷ []) Post)
-    walk 𝓣 known =
-        qed W ((‵ (flft κ q) ⊛ ‵ ftrue) ∷ ‵ (owns (ShrSlice (named 0) κ R ∷ usize ∷ []) a vals) ∷ []) ∵ enter ! (𝓣 .C) (𝓣 .Λ) code.function
-        (s ∷ vint w64 lanes ∷ []) _ $
-        alloc1 ! (λ l₀. alloc1 ! (λ l₁. alloc1 ! (λ l₂. alloc1 ! (λ l₃. alloc1 ! (λ l₄. alloc1 ! (λ l₅. alloc1 ! (λ l₆. alloc1 ! (λ l₇.
-        alloc1 ! (λ l₈. alloc1 ! (λ l₉. alloc0 ! $ params1 ! $
-        pass1 ! (init ! 16 refl (tt, (tt, (record { fits = room .0 }, tt)))) $
-        pass1 ! (init ! 14 refl (tt, record { fits = lanes-fits })) $
-        pass0 ! $
-        assigns ! (of-opd ! (false-lit !)) (from ! (stop !)) (init ! 12 refl (tt, tt)) $
-        assigns ! (of-opd ! (lit ! tt)) (from ! (stop !)) (init ! 10 refl (tt, record { fits = lit< tt })) $
-        move ! (21 ∷ []) $ fsplit ! $ move ! (1 ∷ []) $ fsplit ! $ drop ! $ drop ! $ move ! (21 ∷ []) $ split ! $ move ! (1 ∷ []) $ drop ! $
-        keep ! (1 ∷ 0 ∷ 2 ∷ 3 ∷ 4 ∷ 5 ∷ 6 ∷ 7 ∷ 8 ∷ 9 ∷ 10 ∷ 11 ∷ 12 ∷ 13 ∷ 14 ∷ 15 ∷ 16 ∷ 17 ∷ 18 ∷ 19 ∷ 20 ∷ 21 ∷ []) $
-        by ! (loops-from 𝓣 known l₀ l₁ l₂ l₃ l₄ l₅ l₆ l₇ l₈ l₉)))))))))))
+  -- the MIR, up to the loop
+  walk : (𝓣 : Tables 𝓤 H) → Triple 𝓤 (𝓣 .C #voices·worse) (Callee 𝓤 H A at-mem run) → ent 𝓤 (onEntry 𝓤 H A f.signature (κ, tt)
+      (q, tt) a vals) (WpFn 𝓤 H (𝓣 .C) (𝓣 .Λ) code.function (s ∷ vint w64 lanes ∷ []) Post)
+  walk 𝓣 known =
+      qed W ((‵ (flft κ q) ⊛ ‵ ftrue) ∷ ‵ (owns (ShrSlice (named 0) κ R ∷ usize ∷ []) a vals) ∷ []) ∵ enter ! (𝓣 .C) (𝓣 .Λ)
+      code.function (s ∷ vint w64 lanes ∷ []) _ $
+      alloc1 ! (λ l₀. alloc1 ! (λ l₁. alloc1 ! (λ l₂. alloc1 ! (λ l₃. alloc1 ! (λ l₄. alloc1 ! (λ l₅. alloc1 ! (λ l₆. alloc1 ! (λ
+      l₇. alloc1 ! (λ l₈. alloc1 ! (λ l₉. alloc0 ! $ params1 ! $
+      pass1 ! (init ! 16 refl (tt, (tt, (record { fits = room .0 }, tt)))) $
+      pass1 ! (init ! 14 refl (tt, record { fits = lanes-fits })) $
+      pass0 ! $
+      assigns ! (of-opd ! (false-lit !)) (from ! (stop !)) (init ! 12 refl (tt, tt)) $
+      assigns ! (of-opd ! (lit ! tt)) (from ! (stop !)) (init ! 10 refl (tt, record { fits = lit< tt })) $
+      move ! (21 ∷ []) $ fsplit ! $ move ! (1 ∷ []) $ fsplit ! $ drop ! $ drop ! $ move ! (21 ∷ []) $ split ! $ move ! (1 ∷ []) $
+      drop ! $
+      keep ! (1 ∷ 0 ∷ 2 ∷ 3 ∷ 4 ∷ 5 ∷ 6 ∷ 7 ∷ 8 ∷ 9 ∷ 10 ∷ 11 ∷ 12 ∷ 13 ∷ 14 ∷ 15 ∷ 16 ∷ 17 ∷ 18 ∷ 19 ∷ 20 ∷ 21 ∷ []) $
+      by ! (loops-from 𝓣 known l₀ l₁ l₂ l₃ l₄ l₅ l₆ l₇ l₈ l₉)))))))))))
 
-module _ {M : Type 1} (𝓤 : URA M) (H : Heap 𝓤) (A : Atoms 𝓤) (W : Given 𝓤 H A) (at-mem : Memory → SProp 𝓤) (run : Routine → Fun 𝓤) where
-  any-malformed-walks : (𝓣 : Tables 𝓤 H) → Triple 𝓤 (𝓣 .C #voices·worse) (Callee 𝓤 H A at-mem run) → Walks 𝓤 H A f.ended stayed (WpFn 𝓤 H
-      (𝓣 .C) (𝓣 .Λ) code.function) (f.clauses 𝓤 H A at-mem run)
-  any-malformed-walks 𝓣 known = walked 𝓤 H A f.ended stayed (f.clauses 𝓤 H A at-mem run) (WpFn 𝓤 H (𝓣 .C) (𝓣 .Λ) code.function) (λ κs.
-      (slice-vals, (uint-vals w64, tt))) (λ κs. (shr-slice-tells (named 0) (κs .0) R, (uint-tells w64, tt)))
+module _ {M : Type 1} (𝓤 : URA M) (H : Heap 𝓤) (A : Atoms 𝓤) (W : Given 𝓤 H A) (at-mem : Memory → SProp 𝓤) (run : Routine → Fun
+    𝓤) where
+  any-malformed-walks : (𝓣 : Tables 𝓤 H) → Triple 𝓤 (𝓣 .C #voices·worse) (Callee 𝓤 H A at-mem run) → Walks 𝓤 H A f.ended stayed
+      (WpFn 𝓤 H (𝓣 .C) (𝓣 .Λ) code.function) (f.clauses 𝓤 H A at-mem run)
+  any-malformed-walks 𝓣 known = walked 𝓤 H A f.ended stayed (f.clauses 𝓤 H A at-mem run) (WpFn 𝓤 H (𝓣 .C) (𝓣 .Λ) code.function)
+      (λ κs. (slice-vals, (uint-vals w64, tt))) (λ κs. (shr-slice-tells (named 0) (κs .0) R, (uint-tells w64, tt)))
       (λ κs qs bounds a g are. via 𝓤 _ (fst∗ 𝓤 _ (emp 𝓤))
-      (walk 𝓤 H A W at-mem run (κs .0) (qs .0) (a .0 .ptr .0) (a .0 .ptr .1) (a .0 .name) (a .0 .now) (a .1 .0) (are .1 .0 .1) (are .0 .0
-      .1) 𝓣 known))
+      (walk 𝓤 H A W at-mem run (κs .0) (qs .0) (a .0 .ptr .0) (a .0 .ptr .1) (a .0 .name) (a .0 .now) (a .1 .0) (are .1 .0 .1)
+      (are .0 .0 .1) 𝓣 known))
 
-any-malformed-meets : {M : Type 1} (𝓤 : URA M) (H : Heap 𝓤) (A : Atoms 𝓤) → Given 𝓤 H A → (at-mem : Memory → SProp 𝓤) (run : Routine → Fun
-    𝓤) (𝓣 : Tables 𝓤 H) → Triple 𝓤 (𝓣 .C #voices·worse) (Callee 𝓤 H A at-mem run)
+any-malformed-meets : {M : Type 1} (𝓤 : URA M) (H : Heap 𝓤) (A : Atoms 𝓤) → Given 𝓤 H A → (at-mem : Memory → SProp 𝓤) (run :
+    Routine → Fun 𝓤) (𝓣 : Tables 𝓤 H) → Triple 𝓤 (𝓣 .C #voices·worse) (Callee 𝓤 H A at-mem run)
     → Meets 𝓤 H A f.signature (WpFn 𝓤 H (𝓣 .C) (𝓣 .Λ) code.function) (f.spec 𝓤 H A at-mem run)
 any-malformed-meets 𝓤 H A W at-mem run 𝓣 known =
     walk-meets 𝓤 H A f.ended stayed W (
       goes-none-slice 𝓤 H A W 1 (0 ∷ []) tt (plain (λ _. R)) yes,
       (
-        goes-none 𝓤 H A W 1 (λ _. usize) yes (λ
-            κs x f. refl),
+        goes-none 𝓤 H A W 1 (λ _.
+            usize) yes (λ κs x f. refl),
         tt,
       ),
     ) (f.clauses 𝓤 H A at-mem run)
-    (WpFn 𝓤 H (𝓣 .C) (𝓣 .Λ) code.function) (WpFn-mono 𝓤 H (W .laws) 𝓣 code.function) (any-malformed-walks 𝓤 H A W at-mem run 𝓣 known)
+    (WpFn 𝓤 H (𝓣 .C) (𝓣 .Λ) code.function) (WpFn-mono 𝓤 H (W .laws) 𝓣 code.function) (any-malformed-walks 𝓤 H A W at-mem run 𝓣
+    known)
 
 pub any-malformed-spec : {M : Type 1} → stated.statement M
 unfolding code.routine tablesOf
@@ -351,5 +360,5 @@ any-malformed-spec 𝓤 H 𝓜 𝓖 𝓡 =
     entered 𝓤 H (tripleOf 𝓤 H (𝓖 .A) f.signature (f.spec 𝓤 H (𝓖 .A) (𝓜 .mem) (𝓡 .run)))
     (tables 𝓤 H 𝓜 𝓡 code.env .C) (tables 𝓤 H 𝓜 𝓡 code.env .Λ) #voices·any-malformed code.function (code.unfolded 𝓤 H 𝓜 𝓡)
     (any-malformed-meets 𝓤 H (𝓖 .A) (givenOf 𝓤 H 𝓜 𝓖) (𝓜 .mem) (𝓡 .run) (tablesOf 𝓤 H 𝓜 (tables 𝓤 H 𝓜 𝓡 code.env))
-    (cited 𝓤 H (Callee 𝓤 H (𝓖 .A) (𝓜 .mem) (𝓡 .run)) 𝓜 𝓡 code.env #voices·worse worse-def.routine code.calls-voice-turn·refusal·worse
-    (worse-thm.met 𝓤 H 𝓜 𝓖 𝓡)))
+    (cited 𝓤 H (Callee 𝓤 H (𝓖 .A) (𝓜 .mem) (𝓡 .run)) 𝓜 𝓡 code.env #voices·worse worse-def.routine
+    code.calls-voice-turn·refusal·worse (worse-thm.met 𝓤 H 𝓜 𝓖 𝓡)))

@@ -1,6 +1,6 @@
--- `voices::tick` meets its contract: a walk of its MIR, by hand. It has two branches, each with an early return. The scan is lent the slice
--- as shared, and the tick each `&mut` again, for lifetimes that are made for the call; so at every exit each `&mut` is still owned
--- (`stay-slice`).
+-- `voices::tick` meets its contract: a walk of its MIR, by hand. It has two branches, each with an early return. The scan is lent
+-- the slice as shared, and the tick each `&mut` again, for lifetimes that are made for the call; so at every exit each `&mut` is
+-- still owned (`stay-slice`).
 -- Assumes nothing.
 use mathlib.Core.Path.{_≡_, refl, sym, _∙_, ap, subst}
 use Prim.Native.Nat.{ℕ, zero, suc, _<_, _≤_, _^_, _+_, _*_, _-_, zero-le}
@@ -27,11 +27,11 @@ use prog.Wp.{Heap, Out, Env, afterSeq, afterBlock, afterTurn, Calls, Loops, Wp, 
 use ghost.Atoms.{Atoms, sem}
 use contract.Monad.{Fun, fact}
 use contract.Running.{givenOf, tables, tablesOf}
-use types.Kit.{Given, Item, ‵, raw, some, later, _⊛_, ⋆, runs, anyQ, atRet, Sq, _$_, _∵_, !, qed, by, move, keep, drop, use1, use2, use3}
-use types.Kit.{split, join, pick, rewrite, fsplit, fjoin, feqL, suffices, frame, await, done}
-use types.Run.{look, look-raw, init, store, store-raw, forget, stop, hop, fld, from, load, addr, lit, of-opd, bin, and-then, no-more}
-use types.Run.{assigns, assigns-last, first, branches, skips, returns-within, blocks, land, returns, enter, alloc1, alloc0, params1, pass1}
-use types.Run.{pass0, free1, free0, exec, Below, again, loops}
+use types.Kit.{Given, Item, ‵, raw, some, later, _⊛_, ⋆, runs, anyQ, atRet, Sq, _$_, _∵_, !, qed, by, move, keep, drop, use1}
+use types.Kit.{use2, use3, split, join, pick, rewrite, fsplit, fjoin, feqL, suffices, frame, await, done}
+use types.Run.{look, look-raw, init, store, store-raw, forget, stop, hop, fld, from, load, addr, lit, of-opd, bin, and-then}
+use types.Run.{no-more, assigns, assigns-last, first, branches, skips, returns-within, blocks, land, returns, enter, alloc1}
+use types.Run.{alloc0, params1, pass1, pass0, free1, free0, exec, Below, again, loops}
 use types.Part.{agg, whole, sub, look-in}
 use types.Tokens.{lft-new, lft-end}
 use sound.WpLaws.{FmC, fmOf, WpFn-mono}
@@ -121,10 +121,12 @@ abbrev R : RattleType
 R = T.the-row
 
 -- the contracts that the proof cites
-abbrev Refusal : {M : Type 1} (𝓤 : URA M) (H : Heap 𝓤) (A : Atoms 𝓤) (at-mem : Memory → SProp 𝓤) (run : Routine → Fun 𝓤) → Contract 𝓤
+abbrev Refusal : {M : Type 1} (𝓤 : URA M) (H : Heap 𝓤) (A : Atoms 𝓤) (at-mem : Memory → SProp 𝓤) (run : Routine → Fun 𝓤) →
+    Contract 𝓤
 Refusal 𝓤 H A at-mem run = tripleOf 𝓤 H A lengths-number.signature (lengths-number.spec 𝓤 H A at-mem run)
 
-abbrev Refused : {M : Type 1} (𝓤 : URA M) (H : Heap 𝓤) (A : Atoms 𝓤) (at-mem : Memory → SProp 𝓤) (run : Routine → Fun 𝓤) → Contract 𝓤
+abbrev Refused : {M : Type 1} (𝓤 : URA M) (H : Heap 𝓤) (A : Atoms 𝓤) (at-mem : Memory → SProp 𝓤) (run : Routine → Fun 𝓤) →
+    Contract 𝓤
 Refused 𝓤 H A at-mem run = tripleOf 𝓤 H A refuse.signature (refuse.spec 𝓤 H A at-mem run)
 
 abbrev Scan : {M : Type 1} (𝓤 : URA M) (H : Heap 𝓤) (A : Atoms 𝓤) (at-mem : Memory → SProp 𝓤) (run : Routine → Fun 𝓤) → Contract 𝓤
@@ -150,14 +152,15 @@ stayed = (
   (
     stay-none (λ _. Fixed-T.the-row) yes,
     (
-      stay-slice (1 ∷ []) tt (plain (λ _. u8)),
+      stay-slice (1 ∷ []) tt (plain (λ _.
+          u8)),
       (
         stay-slice (2 ∷ []) tt (plain (λ _. u8)),
         (
           stay-none-slice (3 ∷ []) tt (plain (λ _. u8)) yes,
           (
-            stay-slice (4 ∷ []) tt (plain (λ _.
-                i16)),
+            stay-slice (4 ∷ []) tt
+                (plain (λ _. i16)),
             (stay-slice (5 ∷ []) tt (plain (λ _. i32)), tt),
           ),
         ),
@@ -167,12 +170,13 @@ stayed = (
 )
 
 module _ {M : Type 1} (𝓤 : URA M) (H : Heap 𝓤) (A : Atoms 𝓤) (W : Given 𝓤 H A) (at-mem : Memory → SProp 𝓤) (run : Routine → Fun 𝓤)
-    (κ κ₁ κ₂ κ₃ κ₄ κ₅ : Lft) (q q₁ q₂ q₃ q₄ q₅ : Share) (b o : ℕ) (γ : GName) (ys : List Voice) (fixed : Fixed) (b-region0 o-region0 : ℕ)
-    (γ-region0 : GName) (ls-region0 : List ℕ) (b-region1 o-region1 : ℕ) (γ-region1 : GName) (ls-region1 : List ℕ) (b-lanes o-lanes : ℕ)
-    (γ-lanes : GName) (ls-lanes : List ℤ) (b-mixes o-mixes : ℕ) (γ-mixes : GName) (ls-mixes : List ℤ) (window : RefT (List ℕ))
-    (fixed-fits : Is Fixed-T.the-row fixed (LL.vals Fixed-T.the-type Fixed-L.the-laws fixed)) (room : Room R (length ys)) (region0-room :
-    Room u8 (length ls-region0)) (region1-room : Room u8 (length ls-region1)) (lanes-room : Room i16 (length ls-lanes)) (mixes-room :
-    Room i32 (length ls-mixes)) (window-room : Room u8 (length (window .now))) where
+    (κ κ₁ κ₂ κ₃ κ₄ κ₅ : Lft) (q q₁ q₂ q₃ q₄ q₅ : Share) (b o : ℕ) (γ : GName) (ys : List Voice) (fixed : Fixed) (b-region0
+    o-region0 : ℕ) (γ-region0 : GName) (ls-region0 : List ℕ) (b-region1 o-region1 : ℕ) (γ-region1 : GName) (ls-region1 : List
+    ℕ) (b-lanes o-lanes : ℕ) (γ-lanes : GName) (ls-lanes : List ℤ) (b-mixes o-mixes : ℕ) (γ-mixes : GName) (ls-mixes : List
+    ℤ) (window : RefT (List ℕ))
+    (fixed-fits : Is Fixed-T.the-row fixed (LL.vals Fixed-T.the-type Fixed-L.the-laws fixed)) (room : Room R (length ys))
+    (region0-room : Room u8 (length ls-region0)) (region1-room : Room u8 (length ls-region1)) (lanes-room : Room i16 (length
+    ls-lanes)) (mixes-room : Room i32 (length ls-mixes)) (window-room : Room u8 (length (window .now))) where
   abbrev x-vs : GName → List Voice → RefT (List Voice)
   x-vs δ l = record { ptr = (b, o); name = δ; now = l }
 
@@ -210,7 +214,8 @@ module _ {M : Type 1} (𝓤 : URA M) (H : Heap 𝓤) (A : Atoms 𝓤) (W : Given
   s-window = sliceVal (window .ptr) (length (window .now))
 
   abbrev Arg : Type 0
-  Arg = RefT (List Voice) × (Fixed × (RefT (List ℕ) × (RefT (List ℕ) × (RefT (List ℕ) × (RefT (List ℤ) × (RefT (List ℤ) × Unit {0}))))))
+  Arg = RefT (List Voice) × (Fixed × (RefT (List ℕ) × (RefT (List ℕ) × (RefT (List ℕ) × (RefT (List ℤ) × (RefT (List ℤ) × Unit
+      {0}))))))
 
   abbrev a : Arg
   a = (
@@ -225,11 +230,7 @@ module _ {M : Type 1} (𝓤 : URA M) (H : Heap 𝓤) (A : Atoms 𝓤) (W : Given
             window,
             (
               x-lanes γ-lanes ls-lanes,
-              (
-                x-mixes
-                    γ-mixes ls-mixes,
-                tt,
-              ),
+              (x-mixes γ-mixes ls-mixes, tt),
             ),
           ),
         ),
@@ -245,8 +246,8 @@ module _ {M : Type 1} (𝓤 : URA M) (H : Heap 𝓤) (A : Atoms 𝓤) (W : Given
       (
         s-region0 (length ls-region0) ∷ [],
         (
-          s-region1 (length
-              ls-region1) ∷ [],
+          s-region1
+              (length ls-region1) ∷ [],
           (s-window ∷ [], (s-lanes (length ls-lanes) ∷ [], (s-mixes (length ls-mixes) ∷ [], tt))),
         ),
       ),
@@ -289,8 +290,8 @@ module _ {M : Type 1} (𝓤 : URA M) (H : Heap 𝓤) (A : Atoms 𝓤) (W : Given
 
   -- what is ensured
   abbrev Says : Returned → List Voice → List ℕ → List ℕ → List ℤ → List ℤ → Type 0
-  Says r zs-vs zs-region0 zs-region1 zs-lanes zs-mixes = Ensured fixed ls-region0 ls-region1 (window .now) ys ls-lanes ls-mixes r zs-vs
-      zs-region0 zs-region1 zs-lanes zs-mixes
+  Says r zs-vs zs-region0 zs-region1 zs-lanes zs-mixes = Ensured fixed ls-region0 ls-region1 (window .now) ys ls-lanes ls-mixes r
+      zs-vs zs-region0 zs-region1 zs-lanes zs-mixes
 
   abbrev Post : Val → SProp 𝓤
   Post = walkOf 𝓤 H A f.ended stayed (f.clauses 𝓤 H A at-mem run) .post (
@@ -302,13 +303,7 @@ module _ {M : Type 1} (𝓤 : URA M) (H : Heap 𝓤) (A : Atoms 𝓤) (W : Given
           q₁,
           (
             q₂,
-            (
-              q₃,
-              (
-                q₄,
-                (q₅, tt),
-              ),
-            ),
+            (q₃, (q₄, (q₅, tt))),
           ),
         ),
       ),
@@ -319,16 +314,17 @@ module _ {M : Type 1} (𝓤 : URA M) (H : Heap 𝓤) (A : Atoms 𝓤) (W : Given
     tt,
   )
 
-  exits : (r : Returned) (zs-vs : List Voice) (zs-region0 : List ℕ) (zs-region1 : List ℕ) (zs-lanes : List ℤ) (zs-mixes : List ℤ) → Is
-      Returned-T.the-row r (LL.vals Returned-T.the-type Returned-L.the-laws r) → length zs-vs ≡ n → length zs-region0 ≡ length ls-region0 →
-      length zs-region1 ≡ length ls-region1 → length zs-lanes ≡ length ls-lanes → length zs-mixes ≡ length ls-mixes → Says r zs-vs
-      zs-region0 zs-region1 zs-lanes zs-mixes
-      → ent 𝓤 (⋆ 𝓤 H A (‵ (Own-vs zs-vs) ∷ ‵ (flft κ q) ∷ ‵ (Own-region0 zs-region0) ∷ ‵ (flft κ₁ q₁) ∷ ‵ (Own-region1 zs-region1) ∷ ‵
-      (flft κ₂ q₂) ∷ ‵ Own-window ∷ ‵ (flft κ₃ q₃) ∷ ‵ (Own-lanes zs-lanes) ∷ ‵ (flft κ₄ q₄) ∷ ‵ (Own-mixes zs-mixes) ∷ ‵ (flft κ₅ q₅)
-      ∷ [])) (Post (LL.val Returned-T.the-type Returned-L.the-laws r))
+  exits : (r : Returned) (zs-vs : List Voice) (zs-region0 : List ℕ) (zs-region1 : List ℕ) (zs-lanes : List ℤ) (zs-mixes : List ℤ)
+      → Is Returned-T.the-row r (LL.vals Returned-T.the-type Returned-L.the-laws r) → length zs-vs ≡ n → length zs-region0 ≡
+      length ls-region0 → length zs-region1 ≡ length ls-region1 → length zs-lanes ≡ length ls-lanes → length zs-mixes ≡ length
+      ls-mixes → Says r zs-vs zs-region0 zs-region1 zs-lanes zs-mixes
+      → ent 𝓤 (⋆ 𝓤 H A (‵ (Own-vs zs-vs) ∷ ‵ (flft κ q) ∷ ‵ (Own-region0 zs-region0) ∷ ‵ (flft κ₁ q₁) ∷ ‵ (Own-region1
+      zs-region1) ∷ ‵ (flft κ₂ q₂) ∷ ‵ Own-window ∷ ‵ (flft κ₃ q₃) ∷ ‵ (Own-lanes zs-lanes) ∷ ‵ (flft κ₄ q₄) ∷ ‵ (Own-mixes
+      zs-mixes) ∷ ‵ (flft κ₅ q₅) ∷ [])) (Post (LL.val Returned-T.the-type Returned-L.the-laws r))
   exits r zs-vs zs-region0 zs-region1 zs-lanes zs-mixes fits l-vs l-region0 l-region1 l-lanes l-mixes said =
-      qed W (‵ (Own-vs zs-vs) ∷ ‵ (flft κ q) ∷ ‵ (Own-region0 zs-region0) ∷ ‵ (flft κ₁ q₁) ∷ ‵ (Own-region1 zs-region1) ∷ ‵ (flft κ₂ q₂) ∷
-      ‵ Own-window ∷ ‵ (flft κ₃ q₃) ∷ ‵ (Own-lanes zs-lanes) ∷ ‵ (flft κ₄ q₄) ∷ ‵ (Own-mixes zs-mixes) ∷ ‵ (flft κ₅ q₅) ∷ []) ∵
+      qed W (‵ (Own-vs zs-vs) ∷ ‵ (flft κ q) ∷ ‵ (Own-region0 zs-region0) ∷ ‵ (flft κ₁ q₁) ∷ ‵ (Own-region1 zs-region1) ∷ ‵ (flft
+      κ₂ q₂) ∷ ‵ Own-window ∷ ‵ (flft κ₃ q₃) ∷ ‵ (Own-lanes zs-lanes) ∷ ‵ (flft κ₄ q₄) ∷ ‵ (Own-mixes zs-mixes) ∷ ‵ (flft κ₅
+      q₅) ∷ []) ∵
       suffices ! _ (ends-at 𝓤 H A f.ended stayed (f.clauses 𝓤 H A at-mem run) W (
         (
           (κ, (κ₁, (κ₂, (κ₃, (κ₄, (κ₅, tt)))))),
@@ -336,13 +332,7 @@ module _ {M : Type 1} (𝓤 : URA M) (H : Heap 𝓤) (A : Atoms 𝓤) (W : Given
             q,
             (
               q₁,
-              (
-                q₂,
-                (
-                  q₃,
-                  (q₄, (q₅, tt)),
-                ),
-              ),
+              (q₂, (q₃, (q₄, (q₅, tt)))),
             ),
           ),
           tt,
@@ -354,25 +344,39 @@ module _ {M : Type 1} (𝓤 : URA M) (H : Heap 𝓤) (A : Atoms 𝓤) (W : Given
         zs-vs,
         (
           tt,
+          (zs-region0, (zs-region1, (tt, (zs-lanes, (zs-mixes, tt))))),
+        ),
+      ) (
+        l-vs,
+        (
+          tt,
           (
-            zs-region0,
+            l-region0,
             (
-              zs-region1,
-              (tt, (zs-lanes, (zs-mixes, tt))),
+              l-region1,
+              (
+                tt,
+                (
+                  l-lanes,
+                  (l-mixes, tt),
+                ),
+              ),
             ),
           ),
         ),
-      ) (l-vs, (tt, (l-region0, (l-region1, (tt, (l-lanes, (l-mixes, tt)))))))) $
+      )) $
       says ! said $
       rewrite ! 0 (λ (m : ℕ). ‵ (MutSlice (named 0) κ R .own (x-vs γ zs-vs) (s-vs m ∷ []))) l-vs refl $
-      rewrite ! 2 (λ (m : ℕ). ‵ (MutSlice (named 1) κ₁ u8 .own (x-region0 γ-region0 zs-region0) (s-region0 m ∷ []))) l-region0 refl $
-      rewrite ! 4 (λ (m : ℕ). ‵ (MutSlice (named 2) κ₂ u8 .own (x-region1 γ-region1 zs-region1) (s-region1 m ∷ []))) l-region1 refl $
+      rewrite ! 2 (λ (m : ℕ). ‵ (MutSlice (named 1) κ₁ u8 .own (x-region0 γ-region0 zs-region0) (s-region0 m ∷ []))) l-region0
+      refl $
+      rewrite ! 4 (λ (m : ℕ). ‵ (MutSlice (named 2) κ₂ u8 .own (x-region1 γ-region1 zs-region1) (s-region1 m ∷ []))) l-region1
+      refl $
       rewrite ! 8 (λ (m : ℕ). ‵ (MutSlice (named 4) κ₄ i16 .own (x-lanes γ-lanes zs-lanes) (s-lanes m ∷ []))) l-lanes refl $
       rewrite ! 10 (λ (m : ℕ). ‵ (MutSlice (named 5) κ₅ i32 .own (x-mixes γ-mixes zs-mixes) (s-mixes m ∷ []))) l-mixes refl $
-      nothing ! $ move ! (12 ∷ 0 ∷ []) $ join ! $ move ! (10 ∷ 0 ∷ []) $ join ! $ move ! (8 ∷ 0 ∷ []) $ join ! $ move ! (6 ∷ 0 ∷ []) $ join
-      ! $ move ! (4 ∷ 0 ∷ []) $ join ! $ move ! (2 ∷ 0 ∷ []) $ join ! $
-      frame ! $ nothing ! $ move ! (6 ∷ 0 ∷ []) $ fjoin ! $ move ! (5 ∷ 0 ∷ []) $ fjoin ! $ move ! (4 ∷ 0 ∷ []) $ fjoin ! $ move ! (3 ∷ 0 ∷
-      []) $ fjoin ! $ move ! (2 ∷ 0 ∷ []) $ fjoin ! $
+      nothing ! $ move ! (12 ∷ 0 ∷ []) $ join ! $ move ! (10 ∷ 0 ∷ []) $ join ! $ move ! (8 ∷ 0 ∷ []) $ join ! $ move ! (6 ∷ 0 ∷
+      []) $ join ! $ move ! (4 ∷ 0 ∷ []) $ join ! $ move ! (2 ∷ 0 ∷ []) $ join ! $
+      frame ! $ nothing ! $ move ! (6 ∷ 0 ∷ []) $ fjoin ! $ move ! (5 ∷ 0 ∷ []) $ fjoin ! $ move ! (4 ∷ 0 ∷ []) $ fjoin ! $ move
+      ! (3 ∷ 0 ∷ []) $ fjoin ! $ move ! (2 ∷ 0 ∷ []) $ fjoin ! $
       owned ! Fixed-T.the-row (Is Fixed-T.the-row) (LL.makes Fixed-T.the-type Fixed-L.the-plain 𝓤 H A) fixed _ (fixed-fits) $
       fjoin ! $ move ! (1 ∷ 0 ∷ []) $ fjoin ! $
       owned ! Returned-T.the-row (Is Returned-T.the-row) (LL.makes Returned-T.the-type Returned-L.the-plain 𝓤 H A) r _ fits $
@@ -383,7 +387,28 @@ module _ {M : Type 1} (𝓤 : URA M) (H : Heap 𝓤) (A : Atoms 𝓤) (W : Given
   refusal-lfts = tt
 
   abbrev refusal-passed : Fixed × (ℕ × (ℕ × (ℕ × (ℕ × (ℕ × (ℕ × Unit {0}))))))
-  refusal-passed = (fixed, (n, (length ls-region0, (length ls-region1, (length (window .now), (length ls-lanes, (length ls-mixes, tt)))))))
+  refusal-passed = (
+    fixed,
+    (
+      n,
+      (
+        length ls-region0,
+        (
+          length ls-region1,
+          (
+            length (window .now),
+            (
+              length ls-lanes,
+              (
+                length ls-mixes,
+                tt,
+              ),
+            ),
+          ),
+        ),
+      ),
+    ),
+  )
 
   abbrev refusal-vals : List Val × (List Val × (List Val × (List Val × (List Val × (List Val × (List Val × Unit {0}))))))
   refusal-vals = (
@@ -393,14 +418,14 @@ module _ {M : Type 1} (𝓤 : URA M) (H : Heap 𝓤) (A : Atoms 𝓤) (W : Given
       (
         vint w64 (length ls-region0) ∷ [],
         (
-          vint w64
-              (length ls-region1) ∷ [],
+          vint w64 (length ls-region1) ∷ [],
           (
             vint w64 (length (window .now)) ∷ [],
             (
               vint w64 (length ls-lanes) ∷ [],
               (
-                vint w64 (length ls-mixes) ∷ [],
+                vint w64
+                    (length ls-mixes) ∷ [],
                 tt,
               ),
             ),
@@ -413,14 +438,15 @@ module _ {M : Type 1} (𝓤 : URA M) (H : Heap 𝓤) (A : Atoms 𝓤) (W : Given
   abbrev to-refusal : Refusal 𝓤 H A at-mem run .Ghost
   to-refusal = ((refusal-lfts, tt, tt, refusal-passed, refusal-vals), tt)
 
-  goes-refusal : ent 𝓤 (onEntry 𝓤 H A lengths-number.signature refusal-lfts tt refusal-passed refusal-vals) (Refusal 𝓤 H A at-mem run .pre
-      to-refusal)
+  goes-refusal : ent 𝓤 (onEntry 𝓤 H A lengths-number.signature refusal-lfts tt refusal-passed refusal-vals) (Refusal 𝓤 H A at-mem
+      run .pre to-refusal)
   goes-refusal = qed W ((‵ ftrue) ∷ ‵ (owns (Fixed-T.the-row ∷ usize ∷ usize ∷ usize ∷ usize ∷ usize ∷ usize ∷ []) refusal-passed
       refusal-vals) ∷ []) ∵ join ! $ frame ! $ done !
 
-  refusal-said : (r : ℕ) → ent 𝓤 (ensured 𝓤 H A lengths-number.ended (lengths-number.clauses 𝓤 H A at-mem run) refusal-lfts refusal-passed
-      tt r) (fact 𝓤 (r ≡ code-is))
-  refusal-said r = exE 𝓤 _ (λ ws. snd∗ 𝓤 (sem 𝓤 H A (lasts lengths-number.ended refusal-lfts refusal-passed ws)) (fact 𝓤 (r ≡ code-is)))
+  refusal-said : (r : ℕ) → ent 𝓤 (ensured 𝓤 H A lengths-number.ended (lengths-number.clauses 𝓤 H A at-mem run) refusal-lfts
+      refusal-passed tt r) (fact 𝓤 (r ≡ code-is))
+  refusal-said r = exE 𝓤 _ (λ ws. snd∗ 𝓤 (sem 𝓤 H A (lasts lengths-number.ended refusal-lfts refusal-passed ws)) (fact 𝓤 (r ≡
+      code-is)))
 
   module _ (k : ℕ) where
     abbrev refused-lfts : Unit {0}
@@ -435,14 +461,14 @@ module _ {M : Type 1} (𝓤 : URA M) (H : Heap 𝓤) (A : Atoms 𝓤) (W : Given
     abbrev to-refused : Refused 𝓤 H A at-mem run .Ghost
     to-refused = ((refused-lfts, tt, tt, refused-passed, refused-vals), tt)
 
-    goes-refused : ent 𝓤 (onEntry 𝓤 H A refuse.signature refused-lfts tt refused-passed refused-vals) (Refused 𝓤 H A at-mem run .pre
-        to-refused)
+    goes-refused : ent 𝓤 (onEntry 𝓤 H A refuse.signature refused-lfts tt refused-passed refused-vals) (Refused 𝓤 H A at-mem run
+        .pre to-refused)
     goes-refused = qed W ((‵ ftrue) ∷ ‵ (owns (u8 ∷ []) refused-passed refused-vals) ∷ []) ∵ join ! $ frame ! $ done !
 
-    refused-said : (r : Returned) → ent 𝓤 (ensured 𝓤 H A refuse.ended (refuse.clauses 𝓤 H A at-mem run) refused-lfts refused-passed tt r)
-        (fact 𝓤 (r ≡ returned k (listed [])))
-    refused-said r = exE 𝓤 _ (λ ws. snd∗ 𝓤 (sem 𝓤 H A (lasts refuse.ended refused-lfts refused-passed ws)) (fact 𝓤 (r ≡ returned k (listed
-        []))))
+    refused-said : (r : Returned) → ent 𝓤 (ensured 𝓤 H A refuse.ended (refuse.clauses 𝓤 H A at-mem run) refused-lfts
+        refused-passed tt r) (fact 𝓤 (r ≡ returned k (listed [])))
+    refused-said r = exE 𝓤 _ (λ ws. snd∗ 𝓤 (sem 𝓤 H A (lasts refuse.ended refused-lfts refused-passed ws)) (fact 𝓤 (r ≡ returned
+        k (listed []))))
 
   module _ (ν : ℕ) (δ : GName) where
     abbrev scan-lfts : Lft × Unit {0}
@@ -457,13 +483,13 @@ module _ {M : Type 1} (𝓤 : URA M) (H : Heap 𝓤) (A : Atoms 𝓤) (W : Given
     abbrev to-scan : Scan 𝓤 H A at-mem run .Ghost
     to-scan = ((scan-lfts, (fullShare, tt), tt, scan-passed, scan-vals), tt)
 
-    goes-scan : ent 𝓤 (onEntry 𝓤 H A any-malformed.signature scan-lfts (fullShare, tt) scan-passed scan-vals) (Scan 𝓤 H A at-mem run .pre
-        to-scan)
+    goes-scan : ent 𝓤 (onEntry 𝓤 H A any-malformed.signature scan-lfts (fullShare, tt) scan-passed scan-vals) (Scan 𝓤 H A at-mem
+        run .pre to-scan)
     goes-scan = qed W ((‵ (flft (ν ∷ []) fullShare) ⊛ ‵ ftrue) ∷ ‵ (owns (ShrSlice (named 0) (ν ∷ []) R ∷ usize ∷ []) scan-passed
         scan-vals) ∷ []) ∵ join ! $ frame ! $ done !
 
-    scan-said : (r : Bool) → ent 𝓤 (ensured 𝓤 H A any-malformed.ended (any-malformed.clauses 𝓤 H A at-mem run) scan-lfts scan-passed tt r)
-        (fact 𝓤 (r ≡ bad-is))
+    scan-said : (r : Bool) → ent 𝓤 (ensured 𝓤 H A any-malformed.ended (any-malformed.clauses 𝓤 H A at-mem run) scan-lfts
+        scan-passed tt r) (fact 𝓤 (r ≡ bad-is))
     scan-said r = exE 𝓤 _ (λ ws. snd∗ 𝓤 (sem 𝓤 H A (lasts any-malformed.ended scan-lfts scan-passed ws)) (fact 𝓤 (r ≡ bad-is)))
 
   module _ (ν-region0 ν-region1 ν-mixes : ℕ) (δ-region0 δ-region1 δ-mixes : GName) (zero-is : code-is ≡ 0) where
@@ -479,8 +505,8 @@ module _ {M : Type 1} (𝓤 : URA M) (H : Heap 𝓤) (A : Atoms 𝓤) (W : Given
       (
         s-region0 (length ls-region0) ∷ [],
         (
-          s-region1 (length ls-region1) ∷
-              [],
+          s-region1 (length
+              ls-region1) ∷ [],
           (s-mixes (length ls-mixes) ∷ [], tt),
         ),
       ),
@@ -489,23 +515,23 @@ module _ {M : Type 1} (𝓤 : URA M) (H : Heap 𝓤) (A : Atoms 𝓤) (W : Given
     abbrev to-open : Open 𝓤 H A at-mem run .Ghost
     to-open = ((open-lfts, (fullShare, (fullShare, (fullShare, tt))), tt, open-passed, open-vals), tt)
 
-    goes-open : ent 𝓤 (onEntry 𝓤 H A begin.signature open-lfts (fullShare, (fullShare, (fullShare, tt))) open-passed open-vals) (Open 𝓤 H A
-        at-mem run .pre to-open)
-    goes-open = qed W ((‵ (flft (ν-region0 ∷ []) fullShare) ⊛ ‵ (flft (ν-region1 ∷ []) fullShare) ⊛ ‵ (flft (ν-mixes ∷ []) fullShare) ⊛ ‵
-        ftrue) ∷ ‵ (owns (Fixed-T.the-row ∷ ShrSlice (named 0) (ν-region0 ∷ []) u8 ∷ ShrSlice (named 1) (ν-region1 ∷ []) u8 ∷ MutSlice
-        (named 2) (ν-mixes ∷ []) i32 ∷ []) open-passed open-vals) ∷ []) ∵ says ! (begins fixed ls-region0 ls-region1 (window .now) ys
-        ls-lanes ls-mixes zero-is) $ frame ! $ done !
+    goes-open : ent 𝓤 (onEntry 𝓤 H A begin.signature open-lfts (fullShare, (fullShare, (fullShare, tt))) open-passed open-vals)
+        (Open 𝓤 H A at-mem run .pre to-open)
+    goes-open = qed W ((‵ (flft (ν-region0 ∷ []) fullShare) ⊛ ‵ (flft (ν-region1 ∷ []) fullShare) ⊛ ‵ (flft (ν-mixes ∷ [])
+        fullShare) ⊛ ‵ ftrue) ∷ ‵ (owns (Fixed-T.the-row ∷ ShrSlice (named 0) (ν-region0 ∷ []) u8 ∷ ShrSlice (named 1) (ν-region1
+        ∷ []) u8 ∷ MutSlice (named 2) (ν-mixes ∷ []) i32 ∷ []) open-passed open-vals) ∷ []) ∵ says ! (begins fixed ls-region0
+        ls-region1 (window .now) ys ls-lanes ls-mixes zero-is) $ frame ! $ done !
 
     abbrev OpenLast : Type 0
     OpenLast = Lasts begin.ended open-lfts open-passed
 
-  module _ (ν ν-region0 ν-region1 ν-lanes ν-mixes : ℕ) (δ δ-region0 δ-region1 δ-lanes δ-mixes : GName) (zero-is : code-is ≡ 0) (good :
-      bad-is ≡ false) (fresh-long : length fresh ≡ length ls-mixes) where
+  module _ (ν ν-region0 ν-region1 ν-lanes ν-mixes : ℕ) (δ δ-region0 δ-region1 δ-lanes δ-mixes : GName) (zero-is : code-is ≡ 0)
+      (good : bad-is ≡ false) (fresh-long : length fresh ≡ length ls-mixes) where
     abbrev tick-lfts : Lft × (Lft × (Lft × (Lft × (Lft × (Lft × Unit {0})))))
     tick-lfts = (ν ∷ [], (ν-region0 ∷ [], (ν-region1 ∷ [], (κ₃, (ν-lanes ∷ [], (ν-mixes ∷ [], tt))))))
 
-    abbrev tick-passed : RefT (List Voice) × (Turn × (Fixed × (RefT (List ℕ) × (RefT (List ℕ) × (RefT (List ℕ) × (RefT (List ℤ) × (RefT
-        (List ℤ) × Unit {0})))))))
+    abbrev tick-passed : RefT (List Voice) × (Turn × (Fixed × (RefT (List ℕ) × (RefT (List ℕ) × (RefT (List ℕ) × (RefT (List ℤ) ×
+        (RefT (List ℤ) × Unit {0})))))))
     tick-passed = (
       x-vs δ ys,
       (
@@ -519,8 +545,8 @@ module _ {M : Type 1} (𝓤 : URA M) (H : Heap 𝓤) (A : Atoms 𝓤) (W : Given
               (
                 window,
                 (
-                  x-lanes δ-lanes
-                      ls-lanes,
+                  x-lanes
+                      δ-lanes ls-lanes,
                   (x-mixes δ-mixes fresh, tt),
                 ),
               ),
@@ -530,13 +556,15 @@ module _ {M : Type 1} (𝓤 : URA M) (H : Heap 𝓤) (A : Atoms 𝓤) (W : Given
       ),
     )
 
-    abbrev tick-vals : List Val × (List Val × (List Val × (List Val × (List Val × (List Val × (List Val × (List Val × Unit {0})))))))
+    abbrev tick-vals : List Val × (List Val × (List Val × (List Val × (List Val × (List Val × (List Val × (List Val × Unit
+        {0})))))))
     tick-vals = (
       s-vs n ∷ [],
       (
         LL.val Turn-T.the-type Turn-L.the-laws begun ∷ [],
         (
-          LL.val Fixed-T.the-type Fixed-L.the-laws fixed ∷ [],
+          LL.val Fixed-T.the-type Fixed-L.the-laws fixed
+              ∷ [],
           (
             s-region0 (length ls-region0) ∷ [],
             (
@@ -544,12 +572,9 @@ module _ {M : Type 1} (𝓤 : URA M) (H : Heap 𝓤) (A : Atoms 𝓤) (W : Given
               (
                 s-window ∷ [],
                 (
-                  s-lanes (length ls-lanes) ∷ [],
-                  (
-                    s-mixes
-                        (length ls-mixes) ∷ [],
-                    tt,
-                  ),
+                  s-lanes (length
+                      ls-lanes) ∷ [],
+                  (s-mixes (length ls-mixes) ∷ [], tt),
                 ),
               ),
             ),
@@ -559,7 +584,16 @@ module _ {M : Type 1} (𝓤 : URA M) (H : Heap 𝓤) (A : Atoms 𝓤) (W : Given
     )
 
     abbrev to-tick : Tick 𝓤 H A at-mem run .Ghost
-    to-tick = ((tick-lfts, (fullShare, (fullShare, (fullShare, (q₃, (fullShare, (fullShare, tt)))))), tt, tick-passed, tick-vals), tt)
+    to-tick = (
+      (
+        tick-lfts,
+        (fullShare, (fullShare, (fullShare, (q₃, (fullShare, (fullShare, tt)))))),
+        tt,
+        tick-passed,
+        tick-vals,
+      ),
+      tt,
+    )
 
     goes-tick : ent 𝓤 (onEntry 𝓤 H A serve-all.signature tick-lfts (
       fullShare,
@@ -571,28 +605,26 @@ module _ {M : Type 1} (𝓤 : URA M) (H : Heap 𝓤) (A : Atoms 𝓤) (W : Given
             q₃,
             (
               fullShare,
-              (
-                fullShare,
-                tt,
-              ),
+              (fullShare, tt),
             ),
           ),
         ),
       ),
     ) tick-passed tick-vals) (Tick 𝓤 H A at-mem run .pre to-tick)
-    goes-tick = qed W ((‵ (flft (ν ∷ []) fullShare) ⊛ ‵ (flft (ν-region0 ∷ []) fullShare) ⊛ ‵ (flft (ν-region1 ∷ []) fullShare) ⊛ ‵ (flft
-        κ₃ q₃) ⊛ ‵ (flft (ν-lanes ∷ []) fullShare) ⊛ ‵ (flft (ν-mixes ∷ []) fullShare) ⊛ ‵ ftrue) ∷ ‵ (owns (MutSlice (named 0) (ν ∷ []) R
-        ∷ Turn-T.the-row ∷ Fixed-T.the-row ∷ MutSlice (named 1) (ν-region0 ∷ []) u8 ∷ MutSlice (named 2) (ν-region1 ∷ []) u8 ∷ ShrSlice
-        (named 3) κ₃ u8 ∷ MutSlice (named 4) (ν-lanes ∷ []) i16 ∷ MutSlice (named 5) (ν-mixes ∷ []) i32 ∷ []) tick-passed tick-vals) ∷ [])
-        ∵ says ! (goes-on fixed ls-region0 ls-region1 (window .now) ys ls-lanes ls-mixes zero-is good fresh fresh-long) $ frame ! $ done !
+    goes-tick = qed W ((‵ (flft (ν ∷ []) fullShare) ⊛ ‵ (flft (ν-region0 ∷ []) fullShare) ⊛ ‵ (flft (ν-region1 ∷ []) fullShare) ⊛
+        ‵ (flft κ₃ q₃) ⊛ ‵ (flft (ν-lanes ∷ []) fullShare) ⊛ ‵ (flft (ν-mixes ∷ []) fullShare) ⊛ ‵ ftrue) ∷ ‵ (owns (MutSlice
+        (named 0) (ν ∷ []) R ∷ Turn-T.the-row ∷ Fixed-T.the-row ∷ MutSlice (named 1) (ν-region0 ∷ []) u8 ∷ MutSlice (named 2)
+        (ν-region1 ∷ []) u8 ∷ ShrSlice (named 3) κ₃ u8 ∷ MutSlice (named 4) (ν-lanes ∷ []) i16 ∷ MutSlice (named 5) (ν-mixes ∷
+        []) i32 ∷ []) tick-passed tick-vals) ∷ []) ∵ says ! (goes-on fixed ls-region0 ls-region1 (window .now) ys ls-lanes
+        ls-mixes zero-is good fresh fresh-long) $ frame ! $ done !
 
     abbrev Last : Type 0
     Last = Lasts serve-all.ended tick-lfts tick-passed
 
     abbrev Ticked : Turn → Last → Type 0
-    Ticked r ws = (r ≡ now-is .turn) × (ws .0 ≡ now-is .voices) × (ws .1 .1 .1 .0 ≡ now-is .region0) × (ws .1 .1 .1 .1 .0 ≡ now-is
-        .region1) × (ws .1 .1 .1 .1 .1 .1 .0 ≡ now-is .lanes) × (ws .1 .1 .1 .1 .1 .1 .1 .0 ≡ now-is .mixes) × ((j : ℕ) → j < n → LongAt
-        fixed (window .now) j (ticked fixed (window .now) j ys ls-region0 ls-region1 ls-lanes fresh begun))
+    Ticked r ws = (r ≡ now-is .turn) × (ws .0 ≡ now-is .voices) × (ws .1 .1 .1 .0 ≡ now-is .region0) × (ws .1 .1 .1 .1 .0 ≡
+        now-is .region1) × (ws .1 .1 .1 .1 .1 .1 .0 ≡ now-is .lanes) × (ws .1 .1 .1 .1 .1 .1 .1 .0 ≡ now-is .mixes) × ((j : ℕ) →
+        j < n → LongAt fixed (window .now) j (ticked fixed (window .now) j ys ls-region0 ls-region1 ls-lanes fresh begun))
 
   module _ (k : Turn) where
     abbrev done-lfts : Unit {0}
@@ -610,15 +642,17 @@ module _ {M : Type 1} (𝓤 : URA M) (H : Heap 𝓤) (A : Atoms 𝓤) (W : Given
     goes-done : ent 𝓤 (onEntry 𝓤 H A finish.signature done-lfts tt done-passed done-vals) (Done 𝓤 H A at-mem run .pre to-done)
     goes-done = qed W ((‵ ftrue) ∷ ‵ (owns (Turn-T.the-row ∷ []) done-passed done-vals) ∷ []) ∵ join ! $ frame ! $ done !
 
-    done-said : (r : Returned) → ent 𝓤 (ensured 𝓤 H A finish.ended (finish.clauses 𝓤 H A at-mem run) done-lfts done-passed tt r) (fact 𝓤 (r
-        ≡ returned 0 (k .refused)))
-    done-said r = exE 𝓤 _ (λ ws. snd∗ 𝓤 (sem 𝓤 H A (lasts finish.ended done-lfts done-passed ws)) (fact 𝓤 (r ≡ returned 0 (k .refused))))
+    done-said : (r : Returned) → ent 𝓤 (ensured 𝓤 H A finish.ended (finish.clauses 𝓤 H A at-mem run) done-lfts done-passed tt r)
+        (fact 𝓤 (r ≡ returned 0 (k .refused)))
+    done-said r = exE 𝓤 _ (λ ws. snd∗ 𝓤 (sem 𝓤 H A (lasts finish.ended done-lfts done-passed ws)) (fact 𝓤 (r ≡ returned 0 (k
+        .refused))))
 
-  module _ (𝓣 : Tables 𝓤 H) (known-refusal : Triple 𝓤 (𝓣 .C #voices·lengths-number) (Refusal 𝓤 H A at-mem run)) (known-refused : Triple 𝓤
-      (𝓣 .C #voices·refuse) (Refused 𝓤 H A at-mem run)) (known-scan : Triple 𝓤 (𝓣 .C #voices·any-malformed) (Scan 𝓤 H A at-mem run))
-      (known-open : Triple 𝓤 (𝓣 .C #voices·begin) (Open 𝓤 H A at-mem run)) (known-tick : Triple 𝓤 (𝓣 .C #voices·serve-all) (Tick 𝓤 H A
-      at-mem run)) (known-done : Triple 𝓤 (𝓣 .C #voices·finish) (Done 𝓤 H A at-mem run)) (l₀ l₁ l₂ l₃ l₄ l₅ l₆ l₇ l₈ l₉ l₁₀ l₁₁ l₁₂ l₁₃ l₁₄
-      l₁₅ l₁₆ l₁₇ l₁₈ l₁₉ l₂₀ l₂₁ l₂₂ l₂₃ l₂₄ l₂₅ l₂₆ l₂₇ l₂₈ l₂₉ l₃₀ l₃₁ l₃₂ l₃₃ l₃₄ l₃₅ l₃₆ : ℕ) where
+  module _ (𝓣 : Tables 𝓤 H) (known-refusal : Triple 𝓤 (𝓣 .C #voices·lengths-number) (Refusal 𝓤 H A at-mem run)) (known-refused :
+      Triple 𝓤 (𝓣 .C #voices·refuse) (Refused 𝓤 H A at-mem run)) (known-scan : Triple 𝓤 (𝓣 .C #voices·any-malformed) (Scan 𝓤 H A
+      at-mem run)) (known-open : Triple 𝓤 (𝓣 .C #voices·begin) (Open 𝓤 H A at-mem run)) (known-tick : Triple 𝓤 (𝓣 .C
+      #voices·serve-all) (Tick 𝓤 H A at-mem run)) (known-done : Triple 𝓤 (𝓣 .C #voices·finish) (Done 𝓤 H A at-mem run)) (l₀ l₁ l₂
+      l₃ l₄ l₅ l₆ l₇ l₈ l₉ l₁₀ l₁₁ l₁₂ l₁₃ l₁₄ l₁₅ l₁₆ l₁₇ l₁₈ l₁₉ l₂₀ l₂₁ l₂₂ l₂₃ l₂₄ l₂₅ l₂₆ l₂₇ l₂₈ l₂₉ l₃₀ l₃₁ l₃₂ l₃₃ l₃₄
+      l₃₅ l₃₆ : ℕ) where
     abbrev C : Calls 𝓤 H
     C = 𝓣 .C
 
@@ -627,32 +661,42 @@ module _ {M : Type 1} (𝓤 : URA M) (H : Heap 𝓤) (A : Atoms 𝓤) (W : Given
 
     abbrev En : Env 𝓤 H
     En = (ty-of body.locals 0, l₀) ∷ (ty-of body.locals 1, l₁) ∷ (ty-of body.locals 2, l₂) ∷ (ty-of body.locals 3, l₃) ∷ (
-      ty-of body.locals
-          4,
-      l₄,
-    ) ∷ (ty-of body.locals 5, l₅) ∷ (ty-of body.locals 6, l₆) ∷ (ty-of body.locals 7, l₇) ∷ (ty-of body.locals 8, l₈) ∷ (
       ty-of
-          body.locals 9,
-      l₉,
-    ) ∷ (ty-of body.locals 10, l₁₀) ∷ (ty-of body.locals 11, l₁₁) ∷ (ty-of body.locals 12, l₁₂) ∷ (
-      ty-of body.locals
-          13,
-      l₁₃,
-    ) ∷ (ty-of body.locals 14, l₁₄) ∷ (ty-of body.locals 15, l₁₅) ∷ (ty-of body.locals 16, l₁₆) ∷ (ty-of body.locals 17, l₁₇) ∷
-        (ty-of body.locals 18, l₁₈) ∷ (ty-of body.locals 19, l₁₉) ∷ (ty-of body.locals 20, l₂₀) ∷ (ty-of body.locals 21, l₂₁) ∷ (
-          ty-of
-              body.locals 22,
-          l₂₂,
-        ) ∷ (ty-of body.locals 23, l₂₃) ∷ (ty-of body.locals 24, l₂₄) ∷ (ty-of body.locals 25, l₂₅) ∷ (
-          ty-of body.locals
-              26,
-          l₂₆,
-        ) ∷ (ty-of body.locals 27, l₂₇) ∷ (ty-of body.locals 28, l₂₈) ∷ (ty-of body.locals 29, l₂₉) ∷ (ty-of body.locals 30, l₃₀) ∷
-        (ty-of body.locals 31, l₃₁) ∷ (ty-of body.locals 32, l₃₂) ∷ (ty-of body.locals 33, l₃₃) ∷ (ty-of body.locals 34, l₃₄) ∷ (
-          ty-of
-              body.locals 35,
-          l₃₅,
-        ) ∷ (ty-of body.locals 36, l₃₆) ∷ []
+          body.locals 4,
+      l₄,
+    ) ∷ (ty-of body.locals 5, l₅) ∷ (ty-of body.locals 6, l₆) ∷ (ty-of body.locals 7, l₇) ∷ (
+      ty-of
+          body.locals 8,
+      l₈,
+    ) ∷ (ty-of body.locals 9, l₉) ∷ (ty-of body.locals 10, l₁₀) ∷ (ty-of body.locals 11, l₁₁) ∷ (
+      ty-of
+          body.locals 12,
+      l₁₂,
+    ) ∷ (ty-of body.locals 13, l₁₃) ∷ (ty-of body.locals 14, l₁₄) ∷ (ty-of body.locals 15, l₁₅) ∷ (
+      ty-of
+          body.locals 16,
+      l₁₆,
+    ) ∷ (ty-of body.locals 17, l₁₇) ∷ (ty-of body.locals 18, l₁₈) ∷ (ty-of body.locals 19, l₁₉) ∷ (
+      ty-of
+          body.locals 20,
+      l₂₀,
+    ) ∷ (ty-of body.locals 21, l₂₁) ∷ (ty-of body.locals 22, l₂₂) ∷ (ty-of body.locals 23, l₂₃) ∷ (
+      ty-of
+          body.locals 24,
+      l₂₄,
+    ) ∷ (ty-of body.locals 25, l₂₅) ∷ (ty-of body.locals 26, l₂₆) ∷ (ty-of body.locals 27, l₂₇) ∷ (
+      ty-of
+          body.locals 28,
+      l₂₈,
+    ) ∷ (ty-of body.locals 29, l₂₉) ∷ (ty-of body.locals 30, l₃₀) ∷ (ty-of body.locals 31, l₃₁) ∷ (
+      ty-of
+          body.locals 32,
+      l₃₂,
+    ) ∷ (ty-of body.locals 33, l₃₃) ∷ (ty-of body.locals 34, l₃₄) ∷ (ty-of body.locals 35, l₃₅) ∷ (
+      ty-of
+          body.locals 36,
+      l₃₆,
+    ) ∷ []
 
     -- between the statements that matter, with the temporaries forgotten
     abbrev At : List (Item 𝓤)
@@ -837,165 +881,167 @@ module _ {M : Type 1} (𝓤 : URA M) (H : Heap 𝓤) (A : Atoms 𝓤) (W : Given
     served : code-is ≡ 0 → bad-is ≡ false → length fresh ≡ length ls-mixes → Is Turn-T.the-row begun (LL.vals Turn-T.the-type
         Turn-L.the-laws begun) → Sq W Begun (runs C Λ En body.t-23 (atRet En Post))
     served zero-is good fresh-long begun-fits =
-        -- the call has begun [vs; κ; region0; κ₁; region1; κ₂; window; κ₃; lanes; κ₄; mixes; κ₅; _36 (12); _35 (14); _34 (16); _33 (18);
-        -- _32 (20); _31 (22); _30 (24); _29 (26); _28 (28); _27 (30); _26 (32); _25 (34); _24 (36); _23 (38); _22 (40); _21 (42); _20 (44);
-        -- _19 (46); _18 (48); _17 (50); _16 (52); _15 (54); _14 (56); _13 (58); _12 (60); _11 (62); _10 (64); _9 (66); _8 (68); _7 (70); _6
-        -- (72); _5 (74); _4 (76); _3 (78); _2 (80); _1 (82); _0 (84)]
-        assigns ! (addr ! (from ! (fld ! refl (hop ! (look-in ! 82 (sub ! 0 refl (whole !))) (stop !))))) (from ! (stop !)) (init ! 30 refl
-        (tt, tt)) $
-        assigns ! (agg ! (and-then ! (load ! (from ! (stop !)) (look ! 30 refl)) (and-then ! (load ! (from ! (fld ! refl (stop !)))
-        (look-in ! 82 (sub ! 1 refl (whole !)))) (no-more !)))) (from ! (stop !)) (init ! 28 refl (
-          tt,
-          (
-            tt,
-            (
-              record { fits = room .0 },
-              tt,
-            ),
-          ),
-        )) $
-        assigns ! (addr ! (from ! (fld ! refl (hop ! (look-in ! 78 (sub ! 0 refl (whole !))) (stop !))))) (from ! (stop !)) (init ! 26 refl
-        (tt, tt)) $
-        assigns ! (agg ! (and-then ! (load ! (from ! (stop !)) (look ! 26 refl)) (and-then ! (load ! (from ! (fld ! refl (stop !)))
-        (look-in ! 78 (sub ! 1 refl (whole !)))) (no-more !)))) (from ! (stop !)) (init ! 24 refl (
+        -- the call has begun [vs; κ; region0; κ₁; region1; κ₂; window; κ₃; lanes; κ₄; mixes; κ₅; _36 (12); _35 (14); _34 (16);
+        -- _33 (18); _32 (20); _31 (22); _30 (24); _29 (26); _28 (28); _27 (30); _26 (32); _25 (34); _24 (36); _23 (38); _22 (40);
+        -- _21 (42); _20 (44); _19 (46); _18 (48); _17 (50); _16 (52); _15 (54); _14 (56); _13 (58); _12 (60); _11 (62); _10 (64);
+        -- _9 (66); _8 (68); _7 (70); _6 (72); _5 (74); _4 (76); _3 (78); _2 (80); _1 (82); _0 (84)]
+        assigns ! (addr ! (from ! (fld ! refl (hop ! (look-in ! 82 (sub ! 0 refl (whole !))) (stop !))))) (from ! (stop !)) (init
+        ! 30 refl (tt, tt)) $
+        assigns ! (agg ! (and-then ! (load ! (from ! (stop !)) (look ! 30 refl)) (and-then ! (load ! (from ! (fld ! refl (stop
+        !))) (look-in ! 82 (sub ! 1 refl (whole !)))) (no-more !)))) (from ! (stop !)) (init ! 28 refl (
           tt,
           (
             tt,
             (
               record {
-                fits =
-                    region0-room .0;
+                fits = room .0;
               },
               tt,
             ),
           ),
         )) $
-        assigns ! (addr ! (from ! (fld ! refl (hop ! (look-in ! 76 (sub ! 0 refl (whole !))) (stop !))))) (from ! (stop !)) (init ! 22 refl
-        (tt, tt)) $
-        assigns ! (agg ! (and-then ! (load ! (from ! (stop !)) (look ! 22 refl)) (and-then ! (load ! (from ! (fld ! refl (stop !)))
-        (look-in ! 76 (sub ! 1 refl (whole !)))) (no-more !)))) (from ! (stop !)) (init ! 20 refl (
+        assigns ! (addr ! (from ! (fld ! refl (hop ! (look-in ! 78 (sub ! 0 refl (whole !))) (stop !))))) (from ! (stop !)) (init
+        ! 26 refl (tt, tt)) $
+        assigns ! (agg ! (and-then ! (load ! (from ! (stop !)) (look ! 26 refl)) (and-then ! (load ! (from ! (fld ! refl (stop
+        !))) (look-in ! 78 (sub ! 1 refl (whole !)))) (no-more !)))) (from ! (stop !)) (init ! 24 refl (
           tt,
           (
             tt,
             (
               record {
-                fits =
-                    region1-room .0;
+                fits = region0-room .0;
               },
               tt,
             ),
           ),
         )) $
-        assigns ! (addr ! (from ! (fld ! refl (hop ! (look-in ! 72 (sub ! 0 refl (whole !))) (stop !))))) (from ! (stop !)) (init ! 18 refl
-        (tt, tt)) $
-        assigns ! (agg ! (and-then ! (load ! (from ! (stop !)) (look ! 18 refl)) (and-then ! (load ! (from ! (fld ! refl (stop !)))
-        (look-in ! 72 (sub ! 1 refl (whole !)))) (no-more !)))) (from ! (stop !)) (init ! 16 refl (
+        assigns ! (addr ! (from ! (fld ! refl (hop ! (look-in ! 76 (sub ! 0 refl (whole !))) (stop !))))) (from ! (stop !)) (init
+        ! 22 refl (tt, tt)) $
+        assigns ! (agg ! (and-then ! (load ! (from ! (stop !)) (look ! 22 refl)) (and-then ! (load ! (from ! (fld ! refl (stop
+        !))) (look-in ! 76 (sub ! 1 refl (whole !)))) (no-more !)))) (from ! (stop !)) (init ! 20 refl (
           tt,
           (
             tt,
             (
               record {
-                fits = lanes-room
-                    .0;
+                fits = region1-room .0;
               },
               tt,
             ),
           ),
         )) $
-        assigns ! (addr ! (from ! (fld ! refl (hop ! (look-in ! 70 (sub ! 0 refl (whole !))) (stop !))))) (from ! (stop !)) (init ! 14 refl
-        (tt, tt)) $
-        assigns ! (agg ! (and-then ! (load ! (from ! (stop !)) (look ! 14 refl)) (and-then ! (load ! (from ! (fld ! refl (stop !)))
-        (look-in ! 70 (sub ! 1 refl (whole !)))) (no-more !)))) (from ! (stop !)) (init ! 12 refl (
+        assigns ! (addr ! (from ! (fld ! refl (hop ! (look-in ! 72 (sub ! 0 refl (whole !))) (stop !))))) (from ! (stop !)) (init
+        ! 18 refl (tt, tt)) $
+        assigns ! (agg ! (and-then ! (load ! (from ! (stop !)) (look ! 18 refl)) (and-then ! (load ! (from ! (fld ! refl (stop
+        !))) (look-in ! 72 (sub ! 1 refl (whole !)))) (no-more !)))) (from ! (stop !)) (init ! 16 refl (
           tt,
           (
             tt,
             (
               record {
-                fits = mixes-room
-                    .0;
+                fits = lanes-room .0;
               },
               tt,
             ),
           ),
         )) $
-        -- each `&mut` is lent again [vs; κ; region0; κ₁; region1; κ₂; window; κ₃; lanes; κ₄; mixes; κ₅; _36 (12); _35 (14); _34 (16); _33
-        -- (18); _32 (20); _31 (22); _30 (24); _29 (26); _28 (28); _27 (30); _26 (32); _25 (34); _24 (36); _23 (38); _22 (40); _21 (42); _20
-        -- (44); _19 (46); _18 (48); _17 (50); _16 (52); _15 (54); _14 (56); _13 (58); _12 (60); _11 (62); _10 (64); _9 (66); _8 (68); _7
-        -- (70); _6 (72); _5 (74); _4 (76); _3 (78); _2 (80); _1 (82); _0 (84)]
+        assigns ! (addr ! (from ! (fld ! refl (hop ! (look-in ! 70 (sub ! 0 refl (whole !))) (stop !))))) (from ! (stop !)) (init
+        ! 14 refl (tt, tt)) $
+        assigns ! (agg ! (and-then ! (load ! (from ! (stop !)) (look ! 14 refl)) (and-then ! (load ! (from ! (fld ! refl (stop
+        !))) (look-in ! 70 (sub ! 1 refl (whole !)))) (no-more !)))) (from ! (stop !)) (init ! 12 refl (
+          tt,
+          (
+            tt,
+            (
+              record {
+                fits = mixes-room .0;
+              },
+              tt,
+            ),
+          ),
+        )) $
+        -- each `&mut` is lent again [vs; κ; region0; κ₁; region1; κ₂; window; κ₃; lanes; κ₄; mixes; κ₅; _36 (12); _35 (14); _34
+        -- (16); _33 (18); _32 (20); _31 (22); _30 (24); _29 (26); _28 (28); _27 (30); _26 (32); _25 (34); _24 (36); _23 (38); _22
+        -- (40); _21 (42); _20 (44); _19 (46); _18 (48); _17 (50); _16 (52); _15 (54); _14 (56); _13 (58); _12 (60); _11 (62); _10
+        -- (64); _9 (66); _8 (68); _7 (70); _6 (72); _5 (74); _4 (76); _3 (78); _2 (80); _1 (82); _0 (84)]
         lft-new ! tt (λ ν.
         move ! (1 ∷ 2 ∷ []) $
-        use2 W (later (some (λ (δ : GName). ‵ (MutSlice (named 0) (ν ∷ []) R .own (x-vs δ ys) (s-vs (length ys) ∷ [])) ⊛ ‵ (LentAgain R κ
-        (ν ∷ []) q γ b o δ ys)))) (lends-again R κ (ν ∷ []) q γ b o 𝓤 H A W (named 0) (named 0) ys) $ await ! tt $ pick ! (λ δ.
+        use2 W (later (some (λ (δ : GName). ‵ (MutSlice (named 0) (ν ∷ []) R .own (x-vs δ ys) (s-vs (length ys) ∷ [])) ⊛ ‵
+        (LentAgain R κ (ν ∷ []) q γ b o δ ys)))) (lends-again R κ (ν ∷ []) q γ b o 𝓤 H A W (named 0) (named 0) ys) $ await !
+        tt $ pick ! (λ δ.
         split ! $
         lft-new ! tt (λ ν-region0.
         move ! (4 ∷ 5 ∷ []) $
-        use2 W (later (some (λ (δ-region0 : GName). ‵ (MutSlice (named 1) (ν-region0 ∷ []) u8 .own (x-region0 δ-region0 ls-region0)
-        (s-region0 (length ls-region0) ∷ [])) ⊛ ‵ (LentAgain u8 κ₁ (ν-region0 ∷ []) q₁ γ-region0 b-region0 o-region0 δ-region0
-        ls-region0)))) (lends-again u8 κ₁ (ν-region0 ∷ []) q₁ γ-region0 b-region0 o-region0 𝓤 H A W (named 1) (named 1) ls-region0) $
-        await ! tt $ pick ! (λ δ-region0.
+        use2 W (later (some (λ (δ-region0 : GName). ‵ (MutSlice (named 1) (ν-region0 ∷ []) u8 .own (x-region0 δ-region0
+        ls-region0) (s-region0 (length ls-region0) ∷ [])) ⊛ ‵ (LentAgain u8 κ₁ (ν-region0 ∷ []) q₁ γ-region0 b-region0
+        o-region0 δ-region0 ls-region0)))) (lends-again u8 κ₁ (ν-region0 ∷ []) q₁ γ-region0 b-region0 o-region0 𝓤 H A W
+        (named 1) (named 1) ls-region0) $ await ! tt $ pick ! (λ δ-region0.
         split ! $
         lft-new ! tt (λ ν-region1.
         move ! (7 ∷ 8 ∷ []) $
-        use2 W (later (some (λ (δ-region1 : GName). ‵ (MutSlice (named 2) (ν-region1 ∷ []) u8 .own (x-region1 δ-region1 ls-region1)
-        (s-region1 (length ls-region1) ∷ [])) ⊛ ‵ (LentAgain u8 κ₂ (ν-region1 ∷ []) q₂ γ-region1 b-region1 o-region1 δ-region1
-        ls-region1)))) (lends-again u8 κ₂ (ν-region1 ∷ []) q₂ γ-region1 b-region1 o-region1 𝓤 H A W (named 2) (named 2) ls-region1) $
-        await ! tt $ pick ! (λ δ-region1.
+        use2 W (later (some (λ (δ-region1 : GName). ‵ (MutSlice (named 2) (ν-region1 ∷ []) u8 .own (x-region1 δ-region1
+        ls-region1) (s-region1 (length ls-region1) ∷ [])) ⊛ ‵ (LentAgain u8 κ₂ (ν-region1 ∷ []) q₂ γ-region1 b-region1
+        o-region1 δ-region1 ls-region1)))) (lends-again u8 κ₂ (ν-region1 ∷ []) q₂ γ-region1 b-region1 o-region1 𝓤 H A W
+        (named 2) (named 2) ls-region1) $ await ! tt $ pick ! (λ δ-region1.
         split ! $
         lft-new ! tt (λ ν-lanes.
         move ! (12 ∷ 13 ∷ []) $
-        use2 W (later (some (λ (δ-lanes : GName). ‵ (MutSlice (named 4) (ν-lanes ∷ []) i16 .own (x-lanes δ-lanes ls-lanes) (s-lanes (length
-        ls-lanes) ∷ [])) ⊛ ‵ (LentAgain i16 κ₄ (ν-lanes ∷ []) q₄ γ-lanes b-lanes o-lanes δ-lanes ls-lanes)))) (lends-again i16 κ₄
-        (ν-lanes ∷ []) q₄ γ-lanes b-lanes o-lanes 𝓤 H A W (named 4) (named 4) ls-lanes) $ await ! tt $ pick ! (λ δ-lanes.
+        use2 W (later (some (λ (δ-lanes : GName). ‵ (MutSlice (named 4) (ν-lanes ∷ []) i16 .own (x-lanes δ-lanes ls-lanes)
+        (s-lanes (length ls-lanes) ∷ [])) ⊛ ‵ (LentAgain i16 κ₄ (ν-lanes ∷ []) q₄ γ-lanes b-lanes o-lanes δ-lanes
+        ls-lanes)))) (lends-again i16 κ₄ (ν-lanes ∷ []) q₄ γ-lanes b-lanes o-lanes 𝓤 H A W (named 4) (named 4) ls-lanes) $
+        await ! tt $ pick ! (λ δ-lanes.
         split ! $
         lft-new ! tt (λ ν-mixes.
         move ! (15 ∷ 16 ∷ []) $
-        use2 W (later (some (λ (δ-mixes : GName). ‵ (MutSlice (named 5) (ν-mixes ∷ []) i32 .own (x-mixes δ-mixes fresh) (s-mixes (length
-        fresh) ∷ [])) ⊛ ‵ (LentAgain i32 κ₅ (ν-mixes ∷ []) q₅ γ-mixes b-mixes o-mixes δ-mixes fresh)))) (lends-again i32 κ₅ (ν-mixes ∷
-        []) q₅ γ-mixes b-mixes o-mixes 𝓤 H A W (named 5) (named 5) fresh) $ await ! tt $ pick ! (λ δ-mixes.
+        use2 W (later (some (λ (δ-mixes : GName). ‵ (MutSlice (named 5) (ν-mixes ∷ []) i32 .own (x-mixes δ-mixes fresh) (s-mixes
+        (length fresh) ∷ [])) ⊛ ‵ (LentAgain i32 κ₅ (ν-mixes ∷ []) q₅ γ-mixes b-mixes o-mixes δ-mixes fresh)))) (lends-again
+        i32 κ₅ (ν-mixes ∷ []) q₅ γ-mixes b-mixes o-mixes 𝓤 H A W (named 5) (named 5) fresh) $ await ! tt $ pick ! (λ δ-mixes.
         split ! $
-        rewrite ! 0 (λ (m : ℕ). ‵ (MutSlice (named 5) (ν-mixes ∷ []) i32 .own (x-mixes δ-mixes fresh) (s-mixes m ∷ []))) fresh-long refl $
-        -- what the tick asks [new-mixes; kept-mixes; ν-mixes; new-lanes; kept-lanes; ν-lanes; new-region1; kept-region1; ν-region1;
-        -- new-region0; kept-region0; ν-region0; new-vs; kept-vs; ν; window; κ₃; _36 (17); _35 (19); _34 (21); _33 (23); _32 (25); _31 (27);
-        -- _30 (29); _29 (31); _28 (33); _27 (35); _26 (37); _25 (39); _24 (41); _23 (43); _22 (45); _21 (47); _20 (49); _19 (51); _18 (53);
-        -- _17 (55); _16 (57); _15 (59); _14 (61); _13 (63); _12 (65); _11 (67); _10 (69); _9 (71); _8 (73); _7 (75); _6 (77); _5 (79); _4
-        -- (81); _3 (83); _2 (85); _1 (87); _0 (89)]
+        rewrite ! 0 (λ (m : ℕ). ‵ (MutSlice (named 5) (ν-mixes ∷ []) i32 .own (x-mixes δ-mixes fresh) (s-mixes m ∷ [])))
+        fresh-long refl $
+        -- what the tick asks [new-mixes; kept-mixes; ν-mixes; new-lanes; kept-lanes; ν-lanes; new-region1; kept-region1;
+        -- ν-region1; new-region0; kept-region0; ν-region0; new-vs; kept-vs; ν; window; κ₃; _36 (17); _35 (19); _34 (21); _33
+        -- (23); _32 (25); _31 (27); _30 (29); _29 (31); _28 (33); _27 (35); _26 (37); _25 (39); _24 (41); _23 (43); _22 (45); _21
+        -- (47); _20 (49); _19 (51); _18 (53); _17 (55); _16 (57); _15 (59); _14 (61); _13 (63); _12 (65); _11 (67); _10 (69); _9
+        -- (71); _8 (73); _7 (75); _6 (77); _5 (79); _4 (81); _3 (83); _2 (85); _1 (87); _0 (89)]
         move ! (15 ∷ []) $
         use1 W (‵ Own-window ⊛ ‵ Own-window) (shr-slice-copy 𝓤 H A W (named 3) κ₃ u8 .twice window (s-window ∷ [])) $
-        split ! $ nothing ! $ move ! (3 ∷ 0 ∷ []) $ fjoin ! $ move ! (5 ∷ 0 ∷ []) $ fjoin ! $ move ! (1 ∷ 0 ∷ []) $ fjoin ! $ move ! (6 ∷ 0
-        ∷ []) $ fjoin ! $ move ! (8 ∷ 0 ∷ []) $ fjoin ! $
+        split ! $ nothing ! $ move ! (3 ∷ 0 ∷ []) $ fjoin ! $ move ! (5 ∷ 0 ∷ []) $ fjoin ! $ move ! (1 ∷ 0 ∷ []) $ fjoin ! $
+        move ! (6 ∷ 0 ∷ []) $ fjoin ! $ move ! (8 ∷ 0 ∷ []) $ fjoin ! $
         owned ! Fixed-T.the-row (Is Fixed-T.the-row) (LL.makes Fixed-T.the-type Fixed-L.the-plain 𝓤 H A) fixed _ (fixed-fits) $
         fjoin ! $
         owned ! Turn-T.the-row (Is Turn-T.the-row) (LL.makes Turn-T.the-type Turn-L.the-plain 𝓤 H A) begun _ (begun-fits) $
-        fjoin ! $ move ! (10 ∷ 0 ∷ []) $ fjoin ! $ nothing ! $ move ! (4 ∷ 0 ∷ []) $ join ! $ move ! (5 ∷ 0 ∷ []) $ join ! $ move ! (11 ∷ 0
-        ∷ []) $ join ! $ move ! (6 ∷ 0 ∷ []) $ join ! $
+        fjoin ! $ move ! (10 ∷ 0 ∷ []) $ fjoin ! $ nothing ! $ move ! (4 ∷ 0 ∷ []) $ join ! $ move ! (5 ∷ 0 ∷ []) $ join ! $ move
+        ! (11 ∷ 0 ∷ []) $ join ! $ move ! (6 ∷ 0 ∷ []) $ join ! $
         move ! (7 ∷ 0 ∷ []) $ join ! $ move ! (8 ∷ 0 ∷ []) $ join ! $
-        use2 W (raw (Tick 𝓤 H A at-mem run .pre (to-tick ν ν-region0 ν-region1 ν-lanes ν-mixes δ δ-region0 δ-region1 δ-lanes δ-mixes
-        zero-is good fresh-long))) (goes-tick ν ν-region0 ν-region1 ν-lanes ν-mixes δ δ-region0 δ-region1 δ-lanes δ-mixes zero-is good
-        fresh-long) $
-        -- [pre; window; kept-mixes; kept-lanes; kept-region1; kept-region0; kept-vs; _36 (7); _35 (9); _34 (11); _33 (13); _32 (15); _31
-        -- (17); _30 (19); _29 (21); _28 (23); _27 (25); _26 (27); _25 (29); _24 (31); _23 (33); _22 (35); _21 (37); _20 (39); _19 (41); _18
-        -- (43); _17 (45); _16 (47); _15 (49); _14 (51); _13 (53); _12 (55); _11 (57); _10 (59); _9 (61); _8 (63); _7 (65); _6 (67); _5
-        -- (69); _4 (71); _3 (73); _2 (75); _1 (77); _0 (79)]
-        calls-at ! (fmOf 𝓤 H (W .laws) 𝓣) (Tick 𝓤 H A at-mem run) known-tick (to-tick ν ν-region0 ν-region1 ν-lanes ν-mixes δ δ-region0
-        δ-region1 δ-lanes δ-mixes zero-is good fresh-long) (and-then ! (load ! (from ! (stop !)) (look ! 23 refl)) (and-then ! (load !
-        (from ! (stop !)) (look ! 59 refl)) (and-then ! (load ! (from ! (stop !)) (look ! 75 refl)) (and-then ! (load ! (from ! (stop
-        !)) (look ! 19 refl)) (and-then ! (load ! (from ! (stop !)) (look ! 15 refl)) (and-then ! (load ! (from ! (stop !)) (look ! 69
-        refl)) (and-then ! (load ! (from ! (stop !)) (look ! 11 refl)) (and-then ! (load ! (from ! (stop !)) (look ! 7 refl)) (no-more
-        !))))))))) (λ u.
-        use1 W (later (some (λ (r : Turn). ((‵ (flft (ν ∷ []) fullShare) ⊛ ‵ (flft (ν-region0 ∷ []) fullShare) ⊛ ‵ (flft (ν-region1 ∷ [])
-        fullShare) ⊛ ‵ (flft κ₃ q₃) ⊛ ‵ (flft (ν-lanes ∷ []) fullShare) ⊛ ‵ (flft (ν-mixes ∷ []) fullShare) ⊛ ‵ ftrue) ⊛ ‵
-        (Turn-T.the-row .own r (u ∷ []))) ⊛ raw (ensured 𝓤 H A serve-all.ended (serve-all.clauses 𝓤 H A at-mem run) (tick-lfts ν
-        ν-region0 ν-region1 ν-lanes ν-mixes δ δ-region0 δ-region1 δ-lanes δ-mixes zero-is good fresh-long) (tick-passed ν ν-region0
-        ν-region1 ν-lanes ν-mixes δ δ-region0 δ-region1 δ-lanes δ-mixes zero-is good fresh-long) tt r)))) (id⊢ 𝓤 _) $ await ! tt $ pick
-        ! (λ c₁.
+        use2 W (raw (Tick 𝓤 H A at-mem run .pre (to-tick ν ν-region0 ν-region1 ν-lanes ν-mixes δ δ-region0 δ-region1 δ-lanes
+        δ-mixes zero-is good fresh-long))) (goes-tick ν ν-region0 ν-region1 ν-lanes ν-mixes δ δ-region0 δ-region1 δ-lanes
+        δ-mixes zero-is good fresh-long) $
+        -- [pre; window; kept-mixes; kept-lanes; kept-region1; kept-region0; kept-vs; _36 (7); _35 (9); _34 (11); _33 (13); _32
+        -- (15); _31 (17); _30 (19); _29 (21); _28 (23); _27 (25); _26 (27); _25 (29); _24 (31); _23 (33); _22 (35); _21 (37); _20
+        -- (39); _19 (41); _18 (43); _17 (45); _16 (47); _15 (49); _14 (51); _13 (53); _12 (55); _11 (57); _10 (59); _9 (61); _8
+        -- (63); _7 (65); _6 (67); _5 (69); _4 (71); _3 (73); _2 (75); _1 (77); _0 (79)]
+        calls-at ! (fmOf 𝓤 H (W .laws) 𝓣) (Tick 𝓤 H A at-mem run) known-tick (to-tick ν ν-region0 ν-region1 ν-lanes ν-mixes δ
+        δ-region0 δ-region1 δ-lanes δ-mixes zero-is good fresh-long) (and-then ! (load ! (from ! (stop !)) (look ! 23 refl))
+        (and-then ! (load ! (from ! (stop !)) (look ! 59 refl)) (and-then ! (load ! (from ! (stop !)) (look ! 75 refl))
+        (and-then ! (load ! (from ! (stop !)) (look ! 19 refl)) (and-then ! (load ! (from ! (stop !)) (look ! 15 refl))
+        (and-then ! (load ! (from ! (stop !)) (look ! 69 refl)) (and-then ! (load ! (from ! (stop !)) (look ! 11 refl))
+        (and-then ! (load ! (from ! (stop !)) (look ! 7 refl)) (no-more !))))))))) (λ u.
+        use1 W (later (some (λ (r : Turn). ((‵ (flft (ν ∷ []) fullShare) ⊛ ‵ (flft (ν-region0 ∷ []) fullShare) ⊛ ‵ (flft
+        (ν-region1 ∷ []) fullShare) ⊛ ‵ (flft κ₃ q₃) ⊛ ‵ (flft (ν-lanes ∷ []) fullShare) ⊛ ‵ (flft (ν-mixes ∷ []) fullShare)
+        ⊛ ‵ ftrue) ⊛ ‵ (Turn-T.the-row .own r (u ∷ []))) ⊛ raw (ensured 𝓤 H A serve-all.ended (serve-all.clauses 𝓤 H A at-mem
+        run) (tick-lfts ν ν-region0 ν-region1 ν-lanes ν-mixes δ δ-region0 δ-region1 δ-lanes δ-mixes zero-is good fresh-long)
+        (tick-passed ν ν-region0 ν-region1 ν-lanes ν-mixes δ δ-region0 δ-region1 δ-lanes δ-mixes zero-is good fresh-long) tt
+        r)))) (id⊢ 𝓤 _) $ await ! tt $ pick ! (λ c₁.
         split ! $ move ! (1 ∷ []) $
-        use1 W (some (λ (ws : Last ν ν-region0 ν-region1 ν-lanes ν-mixes δ δ-region0 δ-region1 δ-lanes δ-mixes zero-is good fresh-long). ‵
-        (lasts serve-all.ended (tick-lfts ν ν-region0 ν-region1 ν-lanes ν-mixes δ δ-region0 δ-region1 δ-lanes δ-mixes zero-is good
-        fresh-long) (tick-passed ν ν-region0 ν-region1 ν-lanes ν-mixes δ δ-region0 δ-region1 δ-lanes δ-mixes zero-is good fresh-long)
-        ws) ⊛ raw (fact 𝓤 (Ticked ν ν-region0 ν-region1 ν-lanes ν-mixes δ δ-region0 δ-region1 δ-lanes δ-mixes zero-is good fresh-long
-        c₁ ws)))) (id⊢ 𝓤 _) $ pick ! (λ ws.
+        use1 W (some (λ (ws : Last ν ν-region0 ν-region1 ν-lanes ν-mixes δ δ-region0 δ-region1 δ-lanes δ-mixes zero-is good
+        fresh-long). ‵ (lasts serve-all.ended (tick-lfts ν ν-region0 ν-region1 ν-lanes ν-mixes δ δ-region0 δ-region1 δ-lanes
+        δ-mixes zero-is good fresh-long) (tick-passed ν ν-region0 ν-region1 ν-lanes ν-mixes δ δ-region0 δ-region1 δ-lanes
+        δ-mixes zero-is good fresh-long) ws) ⊛ raw (fact 𝓤 (Ticked ν ν-region0 ν-region1 ν-lanes ν-mixes δ δ-region0
+        δ-region1 δ-lanes δ-mixes zero-is good fresh-long c₁ ws)))) (id⊢ 𝓤 _) $ pick ! (λ ws.
         split ! $ move ! (1 ∷ []) $
-        heard ! (Ticked ν ν-region0 ν-region1 ν-lanes ν-mixes δ δ-region0 δ-region1 δ-lanes δ-mixes zero-is good fresh-long c₁ ws) (λ e.
+        heard ! (Ticked ν ν-region0 ν-region1 ν-lanes ν-mixes δ δ-region0 δ-region1 δ-lanes δ-mixes zero-is good fresh-long c₁
+        ws) (λ e.
         fsplit ! $ fsplit ! $ move ! (1 ∷ []) $
         feqL ! (λ l-vs.
         move ! (1 ∷ []) $ fsplit ! $ drop ! $ fsplit ! $ drop ! $ fsplit ! $ fsplit ! $ move ! (1 ∷ []) $
@@ -1009,62 +1055,63 @@ module _ {M : Type 1} (𝓤 : URA M) (H : Heap 𝓤) (A : Atoms 𝓤) (W : Given
         move ! (1 ∷ []) $ drop ! $ move ! (5 ∷ []) $ split ! $ move ! (1 ∷ []) $
         peeks ! Turn-T.the-row (Is Turn-T.the-row) (shows 𝓤 H A Turn-T.the-row) c₁ (u ∷ []) (λ is-c₁.
         land ! (from ! (stop !)) (init ! 63 refl (LL.lawful Turn-T.the-type Turn-L.the-laws 𝓤 H A W .typed c₁ _ is-c₁ .0)) $
-        rewrite ! 63 (λ (w : Val). ‵ (fat fullShare (ty-of body.locals 11) l₁₁ 0 w)) (ap only (LL.tells Turn-T.the-type Turn-L.the-laws c₁
-        _ is-c₁)) refl $
+        rewrite ! 63 (λ (w : Val). ‵ (fat fullShare (ty-of body.locals 11) l₁₁ 0 w)) (ap only (LL.tells Turn-T.the-type
+        Turn-L.the-laws c₁ _ is-c₁)) refl $
         drop ! $
-        -- the lifetimes are ended, and each `&mut` comes back [toks; fin-mixes; fin-lanes; fin-region1; fin-region0; fin-vs; window;
-        -- kept-mixes; kept-lanes; kept-region1; kept-region0; kept-vs; _36 (12); _35 (14); _34 (16); _33 (18); _32 (20); _31 (22); _30
-        -- (24); _29 (26); _28 (28); _27 (30); _26 (32); _25 (34); _24 (36); _23 (38); _22 (40); _21 (42); _20 (44); _19 (46); _18 (48); _17
-        -- (50); _16 (52); _15 (54); _14 (56); _13 (58); _12 (60); _11 (62); _10 (64); _9 (66); _8 (68); _7 (70); _6 (72); _5 (74); _4 (76);
-        -- _3 (78); _2 (80); _1 (82); _0 (84)]
+        -- the lifetimes are ended, and each `&mut` comes back [toks; fin-mixes; fin-lanes; fin-region1; fin-region0; fin-vs;
+        -- window; kept-mixes; kept-lanes; kept-region1; kept-region0; kept-vs; _36 (12); _35 (14); _34 (16); _33 (18); _32 (20);
+        -- _31 (22); _30 (24); _29 (26); _28 (28); _27 (30); _26 (32); _25 (34); _24 (36); _23 (38); _22 (40); _21 (42); _20 (44);
+        -- _19 (46); _18 (48); _17 (50); _16 (52); _15 (54); _14 (56); _13 (58); _12 (60); _11 (62); _10 (64); _9 (66); _8 (68);
+        -- _7 (70); _6 (72); _5 (74); _4 (76); _3 (78); _2 (80); _1 (82); _0 (84)]
         split ! $ lft-end ! tt $ move ! (0 ∷ 12 ∷ 6 ∷ []) $
-        use3 W (later (‵ (MutSlice (named 0) κ R .own (x-vs γ (ws .0)) (s-vs (length ys) ∷ [])) ⊛ ‵ (flft κ q))) (comes-back R κ (ν ∷ []) q
-        γ b o 𝓤 H A W (named 0) (named 0) ys δ (ws .0) room l-vs) $ await ! tt $
+        use3 W (later (‵ (MutSlice (named 0) κ R .own (x-vs γ (ws .0)) (s-vs (length ys) ∷ [])) ⊛ ‵ (flft κ q))) (comes-back R κ
+        (ν ∷ []) q γ b o 𝓤 H A W (named 0) (named 0) ys δ (ws .0) room l-vs) $ await ! tt $
         split ! $
         rewrite ! 0 (λ (m : ℕ). ‵ (MutSlice (named 0) κ R .own (x-vs γ (ws .0)) (s-vs m ∷ []))) (sym l-vs) refl $
         move ! (2 ∷ []) $ split ! $ lft-end ! tt $ move ! (0 ∷ 12 ∷ 7 ∷ []) $
-        use3 W (later (‵ (MutSlice (named 1) κ₁ u8 .own (x-region0 γ-region0 (ws .1 .1 .1 .0)) (s-region0 (length ls-region0) ∷ [])) ⊛ ‵
-        (flft κ₁ q₁))) (comes-back u8 κ₁ (ν-region0 ∷ []) q₁ γ-region0 b-region0 o-region0 𝓤 H A W (named 1) (named 1) ls-region0
-        δ-region0 (ws .1 .1 .1 .0) region0-room l-region0) $ await ! tt $
+        use3 W (later (‵ (MutSlice (named 1) κ₁ u8 .own (x-region0 γ-region0 (ws .1 .1 .1 .0)) (s-region0 (length ls-region0) ∷
+        [])) ⊛ ‵ (flft κ₁ q₁))) (comes-back u8 κ₁ (ν-region0 ∷ []) q₁ γ-region0 b-region0 o-region0 𝓤 H A W (named 1) (named
+        1) ls-region0 δ-region0 (ws .1 .1 .1 .0) region0-room l-region0) $ await ! tt $
         split ! $
         rewrite ! 0 (λ (m : ℕ). ‵ (MutSlice (named 1) κ₁ u8 .own (x-region0 γ-region0 (ws .1 .1 .1 .0)) (s-region0 m ∷ []))) (sym
         l-region0) refl $
         move ! (2 ∷ []) $ split ! $ lft-end ! tt $ move ! (0 ∷ 12 ∷ 8 ∷ []) $
-        use3 W (later (‵ (MutSlice (named 2) κ₂ u8 .own (x-region1 γ-region1 (ws .1 .1 .1 .1 .0)) (s-region1 (length ls-region1) ∷ [])) ⊛ ‵
-        (flft κ₂ q₂))) (comes-back u8 κ₂ (ν-region1 ∷ []) q₂ γ-region1 b-region1 o-region1 𝓤 H A W (named 2) (named 2) ls-region1
-        δ-region1 (ws .1 .1 .1 .1 .0) region1-room l-region1) $ await ! tt $
+        use3 W (later (‵ (MutSlice (named 2) κ₂ u8 .own (x-region1 γ-region1 (ws .1 .1 .1 .1 .0)) (s-region1 (length ls-region1)
+        ∷ [])) ⊛ ‵ (flft κ₂ q₂))) (comes-back u8 κ₂ (ν-region1 ∷ []) q₂ γ-region1 b-region1 o-region1 𝓤 H A W (named 2)
+        (named 2) ls-region1 δ-region1 (ws .1 .1 .1 .1 .0) region1-room l-region1) $ await ! tt $
         split ! $
-        rewrite ! 0 (λ (m : ℕ). ‵ (MutSlice (named 2) κ₂ u8 .own (x-region1 γ-region1 (ws .1 .1 .1 .1 .0)) (s-region1 m ∷ []))) (sym
-        l-region1) refl $
+        rewrite ! 0 (λ (m : ℕ). ‵ (MutSlice (named 2) κ₂ u8 .own (x-region1 γ-region1 (ws .1 .1 .1 .1 .0)) (s-region1 m ∷ [])))
+        (sym l-region1) refl $
         move ! (2 ∷ []) $ split ! $ move ! (1 ∷ []) $ split ! $ lft-end ! tt $ move ! (0 ∷ 13 ∷ 10 ∷ []) $
-        use3 W (later (‵ (MutSlice (named 4) κ₄ i16 .own (x-lanes γ-lanes (ws .1 .1 .1 .1 .1 .1 .0)) (s-lanes (length ls-lanes) ∷ [])) ⊛ ‵
-        (flft κ₄ q₄))) (comes-back i16 κ₄ (ν-lanes ∷ []) q₄ γ-lanes b-lanes o-lanes 𝓤 H A W (named 4) (named 4) ls-lanes δ-lanes (ws .1
-        .1 .1 .1 .1 .1 .0) lanes-room l-lanes) $ await ! tt $
+        use3 W (later (‵ (MutSlice (named 4) κ₄ i16 .own (x-lanes γ-lanes (ws .1 .1 .1 .1 .1 .1 .0)) (s-lanes (length ls-lanes) ∷
+        [])) ⊛ ‵ (flft κ₄ q₄))) (comes-back i16 κ₄ (ν-lanes ∷ []) q₄ γ-lanes b-lanes o-lanes 𝓤 H A W (named 4) (named 4)
+        ls-lanes δ-lanes (ws .1 .1 .1 .1 .1 .1 .0) lanes-room l-lanes) $ await ! tt $
         split ! $
-        rewrite ! 0 (λ (m : ℕ). ‵ (MutSlice (named 4) κ₄ i16 .own (x-lanes γ-lanes (ws .1 .1 .1 .1 .1 .1 .0)) (s-lanes m ∷ []))) (sym
-        l-lanes) refl $
+        rewrite ! 0 (λ (m : ℕ). ‵ (MutSlice (named 4) κ₄ i16 .own (x-lanes γ-lanes (ws .1 .1 .1 .1 .1 .1 .0)) (s-lanes m ∷ [])))
+        (sym l-lanes) refl $
         move ! (2 ∷ []) $ split ! $ lft-end ! tt $ move ! (0 ∷ 13 ∷ 11 ∷ []) $
-        use3 W (later (‵ (MutSlice (named 5) κ₅ i32 .own (x-mixes γ-mixes (ws .1 .1 .1 .1 .1 .1 .1 .0)) (s-mixes (length fresh) ∷ [])) ⊛ ‵
-        (flft κ₅ q₅))) (comes-back i32 κ₅ (ν-mixes ∷ []) q₅ γ-mixes b-mixes o-mixes 𝓤 H A W (named 5) (named 5) fresh δ-mixes (ws .1 .1
-        .1 .1 .1 .1 .1 .0) (subst (Room i32) (sym fresh-long) mixes-room) l-mixes) $ await ! tt $
+        use3 W (later (‵ (MutSlice (named 5) κ₅ i32 .own (x-mixes γ-mixes (ws .1 .1 .1 .1 .1 .1 .1 .0)) (s-mixes (length fresh) ∷
+        [])) ⊛ ‵ (flft κ₅ q₅))) (comes-back i32 κ₅ (ν-mixes ∷ []) q₅ γ-mixes b-mixes o-mixes 𝓤 H A W (named 5) (named 5)
+        fresh δ-mixes (ws .1 .1 .1 .1 .1 .1 .1 .0) (subst (Room i32) (sym fresh-long) mixes-room) l-mixes) $ await ! tt $
         split ! $
-        rewrite ! 0 (λ (m : ℕ). ‵ (MutSlice (named 5) κ₅ i32 .own (x-mixes γ-mixes (ws .1 .1 .1 .1 .1 .1 .1 .0)) (s-mixes m ∷ []))) (sym
-        l-mixes) refl $
+        rewrite ! 0 (λ (m : ℕ). ‵ (MutSlice (named 5) κ₅ i32 .own (x-mixes γ-mixes (ws .1 .1 .1 .1 .1 .1 .1 .0)) (s-mixes m ∷
+        []))) (sym l-mixes) refl $
         move ! (2 ∷ []) $ drop ! $
         move ! (9 ∷ 10 ∷ 7 ∷ 8 ∷ 5 ∷ 6 ∷ 11 ∷ 4 ∷ 2 ∷ 3 ∷ 0 ∷ 1 ∷ []) $
-        -- [vs; κ; region0; κ₁; region1; κ₂; window; κ₃; lanes; κ₄; mixes; κ₅; _36 (12); _35 (14); _34 (16); _33 (18); _32 (20); _31 (22);
-        -- _30 (24); _29 (26); _28 (28); _27 (30); _26 (32); _25 (34); _24 (36); _23 (38); _22 (40); _21 (42); _20 (44); _19 (46); _18 (48);
-        -- _17 (50); _16 (52); _15 (54); _14 (56); _13 (58); _12 (60); _11 (62); _10 (64); _9 (66); _8 (68); _7 (70); _6 (72); _5 (74); _4
-        -- (76); _3 (78); _2 (80); _1 (82); _0 (84)]
+        -- [vs; κ; region0; κ₁; region1; κ₂; window; κ₃; lanes; κ₄; mixes; κ₅; _36 (12); _35 (14); _34 (16); _33 (18); _32 (20);
+        -- _31 (22); _30 (24); _29 (26); _28 (28); _27 (30); _26 (32); _25 (34); _24 (36); _23 (38); _22 (40); _21 (42); _20 (44);
+        -- _19 (46); _18 (48); _17 (50); _16 (52); _15 (54); _14 (56); _13 (58); _12 (60); _11 (62); _10 (64); _9 (66); _8 (68);
+        -- _7 (70); _6 (72); _5 (74); _4 (76); _3 (78); _2 (80); _1 (82); _0 (84)]
         nothing ! $
-        owned ! Turn-T.the-row (Is Turn-T.the-row) (LL.makes Turn-T.the-type Turn-L.the-plain 𝓤 H A) c₁ _ ((subst (λ (us : List Val). Is
-        Turn-T.the-row c₁ us) (LL.tells Turn-T.the-type Turn-L.the-laws c₁ _ is-c₁) is-c₁)) $
+        owned ! Turn-T.the-row (Is Turn-T.the-row) (LL.makes Turn-T.the-type Turn-L.the-plain 𝓤 H A) c₁ _ ((subst (λ (us : List
+        Val). Is Turn-T.the-row c₁ us) (LL.tells Turn-T.the-type Turn-L.the-laws c₁ _ is-c₁) is-c₁)) $
         fjoin ! $ nothing ! $
         use2 W (raw (Done 𝓤 H A at-mem run .pre (to-done c₁))) (goes-done c₁) $
-        calls-at ! (fmOf 𝓤 H (W .laws) 𝓣) (Done 𝓤 H A at-mem run) known-done (to-done c₁) (and-then ! (load ! (from ! (stop !)) (look ! 63
-        refl)) (no-more !)) (λ u-done.
-        use1 W (later (some (λ (r : Returned). (‵ ftrue ⊛ ‵ (Returned-T.the-row .own r (u-done ∷ []))) ⊛ raw (ensured 𝓤 H A finish.ended
-        (finish.clauses 𝓤 H A at-mem run) (done-lfts c₁) (done-passed c₁) tt r)))) (id⊢ 𝓤 _) $ await ! tt $ pick ! (λ r.
+        calls-at ! (fmOf 𝓤 H (W .laws) 𝓣) (Done 𝓤 H A at-mem run) known-done (to-done c₁) (and-then ! (load ! (from ! (stop !))
+        (look ! 63 refl)) (no-more !)) (λ u-done.
+        use1 W (later (some (λ (r : Returned). (‵ ftrue ⊛ ‵ (Returned-T.the-row .own r (u-done ∷ []))) ⊛ raw (ensured 𝓤 H A
+        finish.ended (finish.clauses 𝓤 H A at-mem run) (done-lfts c₁) (done-passed c₁) tt r)))) (id⊢ 𝓤 _) $ await ! tt $ pick
+        ! (λ r.
         split ! $ move ! (1 ∷ []) $
         use1 W (raw (fact 𝓤 (r ≡ returned 0 (c₁ .refused)))) (done-said c₁ r) $
         heard ! (r ≡ returned 0 (c₁ .refused)) (λ e-r.
@@ -1074,75 +1121,73 @@ module _ {M : Type 1} (𝓤 : URA M) (H : Heap 𝓤) (A : Atoms 𝓤) (W : Given
         rewrite ! 85 (λ (w : Val). ‵ (fat fullShare (ty-of body.locals 0) l₀ 0 w)) (ap only (LL.tells Returned-T.the-type
         Returned-L.the-laws r _ is-r)) refl $
         drop ! $
-        returns ! (look ! 84 refl) $ forget ! 82 refl $ forget ! 80 refl $ forget ! 78 refl $ forget ! 76 refl $ forget ! 74 refl $ forget
-        ! 72 refl $ forget ! 70 refl $ forget ! 64 refl $ forget ! 62 refl $ forget ! 30 refl $ forget ! 28 refl $ forget ! 26 refl $
-        forget ! 24 refl $ forget ! 22 refl $ forget ! 20 refl $ forget ! 18 refl $ forget ! 16 refl $ forget ! 14 refl $ forget ! 12
-        refl $ forget ! 84 refl $
-        move ! (84 ∷ 85 ∷ []) $ free1 ! $ move ! (82 ∷ 83 ∷ []) $ free1 ! $ move ! (80 ∷ 81 ∷ []) $ free1 ! $ move ! (78 ∷ 79 ∷ []) $ free1
-        ! $ move ! (76 ∷ 77 ∷ []) $ free1 ! $ move ! (74 ∷ 75 ∷ []) $ free1 ! $ move ! (72 ∷ 73 ∷ []) $ free1 ! $ move ! (70 ∷ 71 ∷ [])
-        $ free1 ! $ move ! (68 ∷ 69 ∷ []) $ free1 ! $ move ! (66 ∷ 67 ∷ []) $ free1 ! $ move ! (64 ∷ 65 ∷ []) $ free1 ! $ move ! (62 ∷
-        63 ∷ []) $ free1 ! $ move ! (60 ∷ 61 ∷ []) $ free1 ! $ move ! (58 ∷ 59 ∷ []) $ free1 ! $ move ! (56 ∷ 57 ∷ []) $ free1 ! $ move
-        ! (54 ∷ 55 ∷ []) $ free1 ! $ move ! (52 ∷ 53 ∷ []) $ free1 ! $ move ! (50 ∷ 51 ∷ []) $ free1 ! $ move ! (48 ∷ 49 ∷ []) $ free1
-        ! $ move ! (46 ∷ 47 ∷ []) $ free1 ! $ move ! (44 ∷ 45 ∷ []) $ free1 ! $ move ! (42 ∷ 43 ∷ []) $ free1 ! $ move ! (40 ∷ 41 ∷ [])
-        $ free1 ! $ move ! (38 ∷ 39 ∷ []) $ free1 ! $ move ! (36 ∷ 37 ∷ []) $ free1 ! $ move ! (34 ∷ 35 ∷ []) $ free1 ! $ move ! (32 ∷
-        33 ∷ []) $ free1 ! $ move ! (30 ∷ 31 ∷ []) $ free1 ! $ move ! (28 ∷ 29 ∷ []) $ free1 ! $ move ! (26 ∷ 27 ∷ []) $ free1 ! $ move
-        ! (24 ∷ 25 ∷ []) $ free1 ! $ move ! (22 ∷ 23 ∷ []) $ free1 ! $ move ! (20 ∷ 21 ∷ []) $ free1 ! $ move ! (18 ∷ 19 ∷ []) $ free1
-        ! $ move ! (16 ∷ 17 ∷ []) $ free1 ! $ move ! (14 ∷ 15 ∷ []) $ free1 ! $ move ! (12 ∷ 13 ∷ []) $ free1 ! $ free0 ! $
-        by ! (exits r (ws .0) (ws .1 .1 .1 .0) (ws .1 .1 .1 .1 .0) (ws .1 .1 .1 .1 .1 .1 .0) (ws .1 .1 .1 .1 .1 .1 .1 .0) (subst (λ (us :
-        List Val). Is Returned-T.the-row r us) (LL.tells Returned-T.the-type Returned-L.the-laws r _ is-r) is-r) l-vs l-region0
-        l-region1 l-lanes (l-mixes ∙ fresh-long) (served-call fixed ls-region0 ls-region1 (window .now) ys ls-lanes ls-mixes zero-is
-        good (e .6) c₁ (ws .0) (ws .1 .1 .1 .0) (ws .1 .1 .1 .1 .0) (ws .1 .1 .1 .1 .1 .1 .0) (ws .1 .1 .1 .1 .1 .1 .1 .0) (e .0) (e
-        .1) (e .2) (e .3) (e .4) (e .5) r e-r))))))))))))))))))))))))))
+        returns ! (look ! 84 refl) $ forget ! 82 refl $ forget ! 80 refl $ forget ! 78 refl $ forget ! 76 refl $ forget ! 74 refl
+        $ forget ! 72 refl $ forget ! 70 refl $ forget ! 64 refl $ forget ! 62 refl $ forget ! 30 refl $ forget ! 28 refl $
+        forget ! 26 refl $ forget ! 24 refl $ forget ! 22 refl $ forget ! 20 refl $ forget ! 18 refl $ forget ! 16 refl $
+        forget ! 14 refl $ forget ! 12 refl $ forget ! 84 refl $
+        move ! (84 ∷ 85 ∷ []) $ free1 ! $ move ! (82 ∷ 83 ∷ []) $ free1 ! $ move ! (80 ∷ 81 ∷ []) $ free1 ! $ move ! (78 ∷ 79 ∷
+        []) $ free1 ! $ move ! (76 ∷ 77 ∷ []) $ free1 ! $ move ! (74 ∷ 75 ∷ []) $ free1 ! $ move ! (72 ∷ 73 ∷ []) $ free1 ! $
+        move ! (70 ∷ 71 ∷ []) $ free1 ! $ move ! (68 ∷ 69 ∷ []) $ free1 ! $ move ! (66 ∷ 67 ∷ []) $ free1 ! $ move ! (64 ∷ 65
+        ∷ []) $ free1 ! $ move ! (62 ∷ 63 ∷ []) $ free1 ! $ move ! (60 ∷ 61 ∷ []) $ free1 ! $ move ! (58 ∷ 59 ∷ []) $ free1 !
+        $ move ! (56 ∷ 57 ∷ []) $ free1 ! $ move ! (54 ∷ 55 ∷ []) $ free1 ! $ move ! (52 ∷ 53 ∷ []) $ free1 ! $ move ! (50 ∷
+        51 ∷ []) $ free1 ! $ move ! (48 ∷ 49 ∷ []) $ free1 ! $ move ! (46 ∷ 47 ∷ []) $ free1 ! $ move ! (44 ∷ 45 ∷ []) $
+        free1 ! $ move ! (42 ∷ 43 ∷ []) $ free1 ! $ move ! (40 ∷ 41 ∷ []) $ free1 ! $ move ! (38 ∷ 39 ∷ []) $ free1 ! $ move
+        ! (36 ∷ 37 ∷ []) $ free1 ! $ move ! (34 ∷ 35 ∷ []) $ free1 ! $ move ! (32 ∷ 33 ∷ []) $ free1 ! $ move ! (30 ∷ 31 ∷
+        []) $ free1 ! $ move ! (28 ∷ 29 ∷ []) $ free1 ! $ move ! (26 ∷ 27 ∷ []) $ free1 ! $ move ! (24 ∷ 25 ∷ []) $ free1 ! $
+        move ! (22 ∷ 23 ∷ []) $ free1 ! $ move ! (20 ∷ 21 ∷ []) $ free1 ! $ move ! (18 ∷ 19 ∷ []) $ free1 ! $ move ! (16 ∷ 17
+        ∷ []) $ free1 ! $ move ! (14 ∷ 15 ∷ []) $ free1 ! $ move ! (12 ∷ 13 ∷ []) $ free1 ! $ free0 ! $
+        by ! (exits r (ws .0) (ws .1 .1 .1 .0) (ws .1 .1 .1 .1 .0) (ws .1 .1 .1 .1 .1 .1 .0) (ws .1 .1 .1 .1 .1 .1 .1 .0) (subst
+        (λ (us : List Val). Is Returned-T.the-row r us) (LL.tells Returned-T.the-type Returned-L.the-laws r _ is-r) is-r)
+        l-vs l-region0 l-region1 l-lanes (l-mixes ∙ fresh-long) (served-call fixed ls-region0 ls-region1 (window .now) ys
+        ls-lanes ls-mixes zero-is good (e .6) c₁ (ws .0) (ws .1 .1 .1 .0) (ws .1 .1 .1 .1 .0) (ws .1 .1 .1 .1 .1 .1 .0) (ws
+        .1 .1 .1 .1 .1 .1 .1 .0) (e .0) (e .1) (e .2) (e .3) (e .4) (e .5) r e-r))))))))))))))))))))))))))
 
     ticks : code-is ≡ 0 → bad-is ≡ false → Sq W At (runs C Λ En body.t-16 (atRet En Post))
     ticks zero-is good =
-        -- both tests failed [vs; κ; region0; κ₁; region1; κ₂; window; κ₃; lanes; κ₄; mixes; κ₅; _36 (12); _35 (14); _34 (16); _33 (18); _32
-        -- (20); _31 (22); _30 (24); _29 (26); _28 (28); _27 (30); _26 (32); _25 (34); _24 (36); _23 (38); _22 (40); _21 (42); _20 (44); _19
-        -- (46); _18 (48); _17 (50); _16 (52); _15 (54); _14 (56); _13 (58); _12 (60); _11 (62); _10 (64); _9 (66); _8 (68); _7 (70); _6
-        -- (72); _5 (74); _4 (76); _3 (78); _2 (80); _1 (82); _0 (84)]
-        assigns ! (addr ! (from ! (fld ! refl (hop ! (look-in ! 78 (sub ! 0 refl (whole !))) (stop !))))) (from ! (stop !)) (init ! 42 refl
-        (tt, tt)) $
-        assigns ! (agg ! (and-then ! (load ! (from ! (stop !)) (look ! 42 refl)) (and-then ! (load ! (from ! (fld ! refl (stop !)))
-        (look-in ! 78 (sub ! 1 refl (whole !)))) (no-more !)))) (from ! (stop !)) (init ! 40 refl (
+        -- both tests failed [vs; κ; region0; κ₁; region1; κ₂; window; κ₃; lanes; κ₄; mixes; κ₅; _36 (12); _35 (14); _34 (16); _33
+        -- (18); _32 (20); _31 (22); _30 (24); _29 (26); _28 (28); _27 (30); _26 (32); _25 (34); _24 (36); _23 (38); _22 (40); _21
+        -- (42); _20 (44); _19 (46); _18 (48); _17 (50); _16 (52); _15 (54); _14 (56); _13 (58); _12 (60); _11 (62); _10 (64); _9
+        -- (66); _8 (68); _7 (70); _6 (72); _5 (74); _4 (76); _3 (78); _2 (80); _1 (82); _0 (84)]
+        assigns ! (addr ! (from ! (fld ! refl (hop ! (look-in ! 78 (sub ! 0 refl (whole !))) (stop !))))) (from ! (stop !)) (init
+        ! 42 refl (tt, tt)) $
+        assigns ! (agg ! (and-then ! (load ! (from ! (stop !)) (look ! 42 refl)) (and-then ! (load ! (from ! (fld ! refl (stop
+        !))) (look-in ! 78 (sub ! 1 refl (whole !)))) (no-more !)))) (from ! (stop !)) (init ! 40 refl (
           tt,
           (
             tt,
             (
               record {
-                fits =
-                    region0-room .0;
+                fits = region0-room .0;
               },
               tt,
             ),
           ),
         )) $
-        assigns ! (addr ! (from ! (fld ! refl (hop ! (look-in ! 76 (sub ! 0 refl (whole !))) (stop !))))) (from ! (stop !)) (init ! 38 refl
-        (tt, tt)) $
-        assigns ! (agg ! (and-then ! (load ! (from ! (stop !)) (look ! 38 refl)) (and-then ! (load ! (from ! (fld ! refl (stop !)))
-        (look-in ! 76 (sub ! 1 refl (whole !)))) (no-more !)))) (from ! (stop !)) (init ! 36 refl (
+        assigns ! (addr ! (from ! (fld ! refl (hop ! (look-in ! 76 (sub ! 0 refl (whole !))) (stop !))))) (from ! (stop !)) (init
+        ! 38 refl (tt, tt)) $
+        assigns ! (agg ! (and-then ! (load ! (from ! (stop !)) (look ! 38 refl)) (and-then ! (load ! (from ! (fld ! refl (stop
+        !))) (look-in ! 76 (sub ! 1 refl (whole !)))) (no-more !)))) (from ! (stop !)) (init ! 36 refl (
           tt,
           (
             tt,
             (
               record {
-                fits =
-                    region1-room .0;
+                fits = region1-room .0;
               },
               tt,
             ),
           ),
         )) $
-        assigns ! (addr ! (from ! (fld ! refl (hop ! (look-in ! 70 (sub ! 0 refl (whole !))) (stop !))))) (from ! (stop !)) (init ! 34 refl
-        (tt, tt)) $
-        assigns ! (agg ! (and-then ! (load ! (from ! (stop !)) (look ! 34 refl)) (and-then ! (load ! (from ! (fld ! refl (stop !)))
-        (look-in ! 70 (sub ! 1 refl (whole !)))) (no-more !)))) (from ! (stop !)) (init ! 32 refl (
+        assigns ! (addr ! (from ! (fld ! refl (hop ! (look-in ! 70 (sub ! 0 refl (whole !))) (stop !))))) (from ! (stop !)) (init
+        ! 34 refl (tt, tt)) $
+        assigns ! (agg ! (and-then ! (load ! (from ! (stop !)) (look ! 34 refl)) (and-then ! (load ! (from ! (fld ! refl (stop
+        !))) (look-in ! 70 (sub ! 1 refl (whole !)))) (no-more !)))) (from ! (stop !)) (init ! 32 refl (
           tt,
           (
             tt,
             (
               record {
-                fits = mixes-room
-                    .0;
+                fits = mixes-room .0;
               },
               tt,
             ),
@@ -1150,47 +1195,49 @@ module _ {M : Type 1} (𝓤 : URA M) (H : Heap 𝓤) (A : Atoms 𝓤) (W : Given
         )) $
         lft-new ! tt (λ ν-region0.
         move ! (3 ∷ 4 ∷ []) $
-        use2 W (later (some (λ (δ-region0 : GName). ‵ (ShrSlice (named 0) (ν-region0 ∷ []) u8 .own (x-region0 δ-region0 ls-region0)
-        (s-region0 (length ls-region0) ∷ [])) ⊛ ‵ (LentShared u8 κ₁ (ν-region0 ∷ []) q₁ γ-region0 b-region0 o-region0 ls-region0))))
-        (lends-shared u8 κ₁ (ν-region0 ∷ []) q₁ γ-region0 b-region0 o-region0 𝓤 H A W (named 1) (named 0) ls-region0) $ await ! tt $
-        pick ! (λ δ-region0.
+        use2 W (later (some (λ (δ-region0 : GName). ‵ (ShrSlice (named 0) (ν-region0 ∷ []) u8 .own (x-region0 δ-region0
+        ls-region0) (s-region0 (length ls-region0) ∷ [])) ⊛ ‵ (LentShared u8 κ₁ (ν-region0 ∷ []) q₁ γ-region0 b-region0
+        o-region0 ls-region0)))) (lends-shared u8 κ₁ (ν-region0 ∷ []) q₁ γ-region0 b-region0 o-region0 𝓤 H A W (named 1)
+        (named 0) ls-region0) $ await ! tt $ pick ! (λ δ-region0.
         split ! $
         lft-new ! tt (λ ν-region1.
         move ! (6 ∷ 7 ∷ []) $
-        use2 W (later (some (λ (δ-region1 : GName). ‵ (ShrSlice (named 1) (ν-region1 ∷ []) u8 .own (x-region1 δ-region1 ls-region1)
-        (s-region1 (length ls-region1) ∷ [])) ⊛ ‵ (LentShared u8 κ₂ (ν-region1 ∷ []) q₂ γ-region1 b-region1 o-region1 ls-region1))))
-        (lends-shared u8 κ₂ (ν-region1 ∷ []) q₂ γ-region1 b-region1 o-region1 𝓤 H A W (named 2) (named 1) ls-region1) $ await ! tt $
-        pick ! (λ δ-region1.
+        use2 W (later (some (λ (δ-region1 : GName). ‵ (ShrSlice (named 1) (ν-region1 ∷ []) u8 .own (x-region1 δ-region1
+        ls-region1) (s-region1 (length ls-region1) ∷ [])) ⊛ ‵ (LentShared u8 κ₂ (ν-region1 ∷ []) q₂ γ-region1 b-region1
+        o-region1 ls-region1)))) (lends-shared u8 κ₂ (ν-region1 ∷ []) q₂ γ-region1 b-region1 o-region1 𝓤 H A W (named 2)
+        (named 1) ls-region1) $ await ! tt $ pick ! (λ δ-region1.
         split ! $
         lft-new ! tt (λ ν-mixes.
         move ! (13 ∷ 14 ∷ []) $
-        use2 W (later (some (λ (δ-mixes : GName). ‵ (MutSlice (named 2) (ν-mixes ∷ []) i32 .own (x-mixes δ-mixes ls-mixes) (s-mixes (length
-        ls-mixes) ∷ [])) ⊛ ‵ (LentAgain i32 κ₅ (ν-mixes ∷ []) q₅ γ-mixes b-mixes o-mixes δ-mixes ls-mixes)))) (lends-again i32 κ₅
-        (ν-mixes ∷ []) q₅ γ-mixes b-mixes o-mixes 𝓤 H A W (named 5) (named 2) ls-mixes) $ await ! tt $ pick ! (λ δ-mixes.
+        use2 W (later (some (λ (δ-mixes : GName). ‵ (MutSlice (named 2) (ν-mixes ∷ []) i32 .own (x-mixes δ-mixes ls-mixes)
+        (s-mixes (length ls-mixes) ∷ [])) ⊛ ‵ (LentAgain i32 κ₅ (ν-mixes ∷ []) q₅ γ-mixes b-mixes o-mixes δ-mixes
+        ls-mixes)))) (lends-again i32 κ₅ (ν-mixes ∷ []) q₅ γ-mixes b-mixes o-mixes 𝓤 H A W (named 5) (named 2) ls-mixes) $
+        await ! tt $ pick ! (λ δ-mixes.
         split ! $
-        -- what the beginning asks [new-mixes; kept-mixes; ν-mixes; new-region1; kept-region1; ν-region1; new-region0; kept-region0;
-        -- ν-region0; vs; κ; window; κ₃; lanes; κ₄; _36 (15); _35 (17); _34 (19); _33 (21); _32 (23); _31 (25); _30 (27); _29 (29); _28
-        -- (31); _27 (33); _26 (35); _25 (37); _24 (39); _23 (41); _22 (43); _21 (45); _20 (47); _19 (49); _18 (51); _17 (53); _16 (55); _15
-        -- (57); _14 (59); _13 (61); _12 (63); _11 (65); _10 (67); _9 (69); _8 (71); _7 (73); _6 (75); _5 (77); _4 (79); _3 (81); _2 (83);
-        -- _1 (85); _0 (87)]
+        -- what the beginning asks [new-mixes; kept-mixes; ν-mixes; new-region1; kept-region1; ν-region1; new-region0;
+        -- kept-region0; ν-region0; vs; κ; window; κ₃; lanes; κ₄; _36 (15); _35 (17); _34 (19); _33 (21); _32 (23); _31 (25); _30
+        -- (27); _29 (29); _28 (31); _27 (33); _26 (35); _25 (37); _24 (39); _23 (41); _22 (43); _21 (45); _20 (47); _19 (49); _18
+        -- (51); _17 (53); _16 (55); _15 (57); _14 (59); _13 (61); _12 (63); _11 (65); _10 (67); _9 (69); _8 (71); _7 (73); _6
+        -- (75); _5 (77); _4 (79); _3 (81); _2 (83); _1 (85); _0 (87)]
         nothing ! $ move ! (1 ∷ 0 ∷ []) $ fjoin ! $ move ! (3 ∷ 0 ∷ []) $ fjoin ! $ move ! (5 ∷ 0 ∷ []) $ fjoin ! $
         owned ! Fixed-T.the-row (Is Fixed-T.the-row) (LL.makes Fixed-T.the-type Fixed-L.the-plain 𝓤 H A) fixed _ (fixed-fits) $
         fjoin ! $ nothing ! $ move ! (3 ∷ 0 ∷ []) $ join ! $ move ! (4 ∷ 0 ∷ []) $ join ! $ move ! (5 ∷ 0 ∷ []) $ join ! $
-        use2 W (raw (Open 𝓤 H A at-mem run .pre (to-open ν-region0 ν-region1 ν-mixes δ-region0 δ-region1 δ-mixes zero-is))) (goes-open
-        ν-region0 ν-region1 ν-mixes δ-region0 δ-region1 δ-mixes zero-is) $
-        calls-at ! (fmOf 𝓤 H (W .laws) 𝓣) (Open 𝓤 H A at-mem run) known-open (to-open ν-region0 ν-region1 ν-mixes δ-region0 δ-region1
-        δ-mixes zero-is) (and-then ! (load ! (from ! (stop !)) (look ! 78 refl)) (and-then ! (load ! (from ! (stop !)) (look ! 38
-        refl)) (and-then ! (load ! (from ! (stop !)) (look ! 34 refl)) (and-then ! (load ! (from ! (stop !)) (look ! 30 refl)) (no-more
-        !))))) (λ u-open.
-        use1 W (later (some (λ (r : Turn). ((‵ (flft (ν-region0 ∷ []) fullShare) ⊛ ‵ (flft (ν-region1 ∷ []) fullShare) ⊛ ‵ (flft (ν-mixes ∷
-        []) fullShare) ⊛ ‵ ftrue) ⊛ ‵ (Turn-T.the-row .own r (u-open ∷ []))) ⊛ raw (ensured 𝓤 H A begin.ended (begin.clauses 𝓤 H A
-        at-mem run) (open-lfts ν-region0 ν-region1 ν-mixes δ-region0 δ-region1 δ-mixes zero-is) (open-passed ν-region0 ν-region1
-        ν-mixes δ-region0 δ-region1 δ-mixes zero-is) tt r)))) (id⊢ 𝓤 _) $ await ! tt $ pick ! (λ c₀.
+        use2 W (raw (Open 𝓤 H A at-mem run .pre (to-open ν-region0 ν-region1 ν-mixes δ-region0 δ-region1 δ-mixes zero-is)))
+        (goes-open ν-region0 ν-region1 ν-mixes δ-region0 δ-region1 δ-mixes zero-is) $
+        calls-at ! (fmOf 𝓤 H (W .laws) 𝓣) (Open 𝓤 H A at-mem run) known-open (to-open ν-region0 ν-region1 ν-mixes δ-region0
+        δ-region1 δ-mixes zero-is) (and-then ! (load ! (from ! (stop !)) (look ! 78 refl)) (and-then ! (load ! (from ! (stop
+        !)) (look ! 38 refl)) (and-then ! (load ! (from ! (stop !)) (look ! 34 refl)) (and-then ! (load ! (from ! (stop !))
+        (look ! 30 refl)) (no-more !))))) (λ u-open.
+        use1 W (later (some (λ (r : Turn). ((‵ (flft (ν-region0 ∷ []) fullShare) ⊛ ‵ (flft (ν-region1 ∷ []) fullShare) ⊛ ‵ (flft
+        (ν-mixes ∷ []) fullShare) ⊛ ‵ ftrue) ⊛ ‵ (Turn-T.the-row .own r (u-open ∷ []))) ⊛ raw (ensured 𝓤 H A begin.ended
+        (begin.clauses 𝓤 H A at-mem run) (open-lfts ν-region0 ν-region1 ν-mixes δ-region0 δ-region1 δ-mixes zero-is)
+        (open-passed ν-region0 ν-region1 ν-mixes δ-region0 δ-region1 δ-mixes zero-is) tt r)))) (id⊢ 𝓤 _) $ await ! tt $ pick
+        ! (λ c₀.
         split ! $ move ! (1 ∷ []) $
-        use1 W (some (λ (ws-open : OpenLast ν-region0 ν-region1 ν-mixes δ-region0 δ-region1 δ-mixes zero-is). ‵ (lasts begin.ended
-        (open-lfts ν-region0 ν-region1 ν-mixes δ-region0 δ-region1 δ-mixes zero-is) (open-passed ν-region0 ν-region1 ν-mixes δ-region0
-        δ-region1 δ-mixes zero-is) ws-open) ⊛ (raw (fact 𝓤 (c₀ ≡ begun)) ⊛ raw (fact 𝓤 ((ws-open .1 .1 .1 .0) ≡ fresh))))) (id⊢ 𝓤 _) $
-        pick ! (λ ws-open.
+        use1 W (some (λ (ws-open : OpenLast ν-region0 ν-region1 ν-mixes δ-region0 δ-region1 δ-mixes zero-is). ‵ (lasts
+        begin.ended (open-lfts ν-region0 ν-region1 ν-mixes δ-region0 δ-region1 δ-mixes zero-is) (open-passed ν-region0
+        ν-region1 ν-mixes δ-region0 δ-region1 δ-mixes zero-is) ws-open) ⊛ (raw (fact 𝓤 (c₀ ≡ begun)) ⊛ raw (fact 𝓤 ((ws-open
+        .1 .1 .1 .0) ≡ fresh))))) (id⊢ 𝓤 _) $ pick ! (λ ws-open.
         split ! $ move ! (1 ∷ []) $ split ! $
         heard ! (c₀ ≡ begun) (λ e-start.
         heard ! ((ws-open .1 .1 .1 .0) ≡ fresh) (λ e-fresh.
@@ -1199,78 +1246,81 @@ module _ {M : Type 1} (𝓤 : URA M) (H : Heap 𝓤) (A : Atoms 𝓤) (W : Given
         move ! (1 ∷ []) $ drop ! $ move ! (1 ∷ []) $ split ! $ move ! (1 ∷ []) $
         peeks ! Turn-T.the-row (Is Turn-T.the-row) (shows 𝓤 H A Turn-T.the-row) c₀ (u-open ∷ []) (λ is-c₀.
         land ! (from ! (stop !)) (init ! 64 refl (LL.lawful Turn-T.the-type Turn-L.the-laws 𝓤 H A W .typed c₀ _ is-c₀ .0)) $
-        rewrite ! 64 (λ (w : Val). ‵ (fat fullShare (ty-of body.locals 10) l₁₀ 0 w)) (ap only (LL.tells Turn-T.the-type Turn-L.the-laws c₀
-        _ is-c₀)) refl $
+        rewrite ! 64 (λ (w : Val). ‵ (fat fullShare (ty-of body.locals 10) l₁₀ 0 w)) (ap only (LL.tells Turn-T.the-type
+        Turn-L.the-laws c₀ _ is-c₀)) refl $
         drop ! $
-        -- what was lent for the beginning comes back [toks; fin; kept-mixes; kept-region1; kept-region0; vs; κ; window; κ₃; lanes; κ₄; _36
-        -- (11); _35 (13); _34 (15); _33 (17); _32 (19); _31 (21); _30 (23); _29 (25); _28 (27); _27 (29); _26 (31); _25 (33); _24 (35); _23
-        -- (37); _22 (39); _21 (41); _20 (43); _19 (45); _18 (47); _17 (49); _16 (51); _15 (53); _14 (55); _13 (57); _12 (59); _11 (61); _10
-        -- (63); _9 (65); _8 (67); _7 (69); _6 (71); _5 (73); _4 (75); _3 (77); _2 (79); _1 (81); _0 (83)]
+        -- what was lent for the beginning comes back [toks; fin; kept-mixes; kept-region1; kept-region0; vs; κ; window; κ₃;
+        -- lanes; κ₄; _36 (11); _35 (13); _34 (15); _33 (17); _32 (19); _31 (21); _30 (23); _29 (25); _28 (27); _27 (29); _26
+        -- (31); _25 (33); _24 (35); _23 (37); _22 (39); _21 (41); _20 (43); _19 (45); _18 (47); _17 (49); _16 (51); _15 (53); _14
+        -- (55); _13 (57); _12 (59); _11 (61); _10 (63); _9 (65); _8 (67); _7 (69); _6 (71); _5 (73); _4 (75); _3 (77); _2 (79);
+        -- _1 (81); _0 (83)]
         split ! $ lft-end ! tt $ move ! (0 ∷ 5 ∷ []) $
-        use2 W (later (‵ (Own-region0 ls-region0) ⊛ ‵ (flft κ₁ q₁))) (shared-back u8 κ₁ (ν-region0 ∷ []) q₁ γ-region0 b-region0 o-region0 𝓤
-        H A W (named 1) (named 1) ls-region0 region0-room) $ await ! tt $
+        use2 W (later (‵ (Own-region0 ls-region0) ⊛ ‵ (flft κ₁ q₁))) (shared-back u8 κ₁ (ν-region0 ∷ []) q₁ γ-region0 b-region0
+        o-region0 𝓤 H A W (named 1) (named 1) ls-region0 region0-room) $ await ! tt $
         split ! $ move ! (2 ∷ []) $ split ! $ lft-end ! tt $ move ! (0 ∷ 6 ∷ []) $
-        use2 W (later (‵ (Own-region1 ls-region1) ⊛ ‵ (flft κ₂ q₂))) (shared-back u8 κ₂ (ν-region1 ∷ []) q₂ γ-region1 b-region1 o-region1 𝓤
-        H A W (named 2) (named 2) ls-region1 region1-room) $ await ! tt $
+        use2 W (later (‵ (Own-region1 ls-region1) ⊛ ‵ (flft κ₂ q₂))) (shared-back u8 κ₂ (ν-region1 ∷ []) q₂ γ-region1 b-region1
+        o-region1 𝓤 H A W (named 2) (named 2) ls-region1 region1-room) $ await ! tt $
         split ! $ move ! (2 ∷ []) $ split ! $ lft-end ! tt $ move ! (0 ∷ 7 ∷ 6 ∷ []) $
-        use3 W (later (‵ (MutSlice (named 5) κ₅ i32 .own (x-mixes γ-mixes (ws-open .1 .1 .1 .0)) (s-mixes (length ls-mixes) ∷ [])) ⊛ ‵
-        (flft κ₅ q₅))) (comes-back i32 κ₅ (ν-mixes ∷ []) q₅ γ-mixes b-mixes o-mixes 𝓤 H A W (named 5) (named 5) ls-mixes δ-mixes
-        (ws-open .1 .1 .1 .0) mixes-room l-open) $ await ! tt $
+        use3 W (later (‵ (MutSlice (named 5) κ₅ i32 .own (x-mixes γ-mixes (ws-open .1 .1 .1 .0)) (s-mixes (length ls-mixes) ∷
+        [])) ⊛ ‵ (flft κ₅ q₅))) (comes-back i32 κ₅ (ν-mixes ∷ []) q₅ γ-mixes b-mixes o-mixes 𝓤 H A W (named 5) (named 5)
+        ls-mixes δ-mixes (ws-open .1 .1 .1 .0) mixes-room l-open) $ await ! tt $
         split ! $
-        rewrite ! 0 (λ (m : ℕ). ‵ (MutSlice (named 5) κ₅ i32 .own (x-mixes γ-mixes (ws-open .1 .1 .1 .0)) (s-mixes m ∷ []))) (sym l-open)
-        refl $
+        rewrite ! 0 (λ (m : ℕ). ‵ (MutSlice (named 5) κ₅ i32 .own (x-mixes γ-mixes (ws-open .1 .1 .1 .0)) (s-mixes m ∷ []))) (sym
+        l-open) refl $
         rewrite ! 0 (λ (l : List ℤ). ‵ (Own-mixes l)) e-fresh refl $
         move ! (2 ∷ []) $ drop ! $
-        rewrite ! 64 (λ (k : Turn). ‵ (fat fullShare (ty-of body.locals 10) l₁₀ 0 (LL.val Turn-T.the-type Turn-L.the-laws k))) e-start refl
-        $
+        rewrite ! 64 (λ (k : Turn). ‵ (fat fullShare (ty-of body.locals 10) l₁₀ 0 (LL.val Turn-T.the-type Turn-L.the-laws k)))
+        e-start refl $
         forget ! 42 refl $ forget ! 40 refl $ forget ! 38 refl $ forget ! 36 refl $ forget ! 34 refl $ forget ! 32 refl $
-        move ! (6 ∷ 7 ∷ 4 ∷ 5 ∷ 2 ∷ 3 ∷ 8 ∷ 9 ∷ 10 ∷ 11 ∷ 0 ∷ 1 ∷ 12 ∷ 13 ∷ 14 ∷ 15 ∷ 16 ∷ 17 ∷ 18 ∷ 19 ∷ 20 ∷ 21 ∷ 22 ∷ 23 ∷ 24 ∷ 25 ∷ 26
-        ∷ 27 ∷ 28 ∷ 29 ∷ 30 ∷ 31 ∷ 32 ∷ 33 ∷ 34 ∷ 35 ∷ 36 ∷ 37 ∷ 38 ∷ 39 ∷ 40 ∷ 41 ∷ 42 ∷ 43 ∷ 44 ∷ 45 ∷ 46 ∷ 47 ∷ 48 ∷ 49 ∷ 50 ∷ 51 ∷
-        52 ∷ 53 ∷ 54 ∷ 55 ∷ 56 ∷ 57 ∷ 58 ∷ 59 ∷ 60 ∷ 61 ∷ 62 ∷ 63 ∷ 64 ∷ 65 ∷ 66 ∷ 67 ∷ 68 ∷ 69 ∷ 70 ∷ 71 ∷ 72 ∷ 73 ∷ 74 ∷ 75 ∷ 76 ∷ 77
-        ∷ 78 ∷ 79 ∷ 80 ∷ 81 ∷ 82 ∷ 83 ∷ 84 ∷ 85 ∷ []) $
+        move ! (6 ∷ 7 ∷ 4 ∷ 5 ∷ 2 ∷ 3 ∷ 8 ∷ 9 ∷ 10 ∷ 11 ∷ 0 ∷ 1 ∷ 12 ∷ 13 ∷ 14 ∷ 15 ∷ 16 ∷ 17 ∷ 18 ∷ 19 ∷ 20 ∷ 21 ∷ 22 ∷ 23 ∷ 24
+        ∷ 25 ∷ 26 ∷ 27 ∷ 28 ∷ 29 ∷ 30 ∷ 31 ∷ 32 ∷ 33 ∷ 34 ∷ 35 ∷ 36 ∷ 37 ∷ 38 ∷ 39 ∷ 40 ∷ 41 ∷ 42 ∷ 43 ∷ 44 ∷ 45 ∷ 46 ∷ 47 ∷
+        48 ∷ 49 ∷ 50 ∷ 51 ∷ 52 ∷ 53 ∷ 54 ∷ 55 ∷ 56 ∷ 57 ∷ 58 ∷ 59 ∷ 60 ∷ 61 ∷ 62 ∷ 63 ∷ 64 ∷ 65 ∷ 66 ∷ 67 ∷ 68 ∷ 69 ∷ 70 ∷ 71
+        ∷ 72 ∷ 73 ∷ 74 ∷ 75 ∷ 76 ∷ 77 ∷ 78 ∷ 79 ∷ 80 ∷ 81 ∷ 82 ∷ 83 ∷ 84 ∷ 85 ∷ []) $
         served zero-is good (ap length (sym e-fresh) ∙ l-open) (subst (λ (k : Turn). Is Turn-T.the-row k (LL.vals Turn-T.the-type
-        Turn-L.the-laws k)) e-start (subst (λ (us : List Val). Is Turn-T.the-row c₀ us) (LL.tells Turn-T.the-type Turn-L.the-laws c₀ _
-        is-c₀) is-c₀)))))))))))))))
+        Turn-L.the-laws k)) e-start (subst (λ (us : List Val). Is Turn-T.the-row c₀ us) (LL.tells Turn-T.the-type
+        Turn-L.the-laws c₀ _ is-c₀) is-c₀)))))))))))))))
 
     scans : code-is ≡ 0 → Sq W At (runs C Λ En body.t-10 (atRet En Post))
     scans zero-is =
-        -- the first test failed [vs; κ; region0; κ₁; region1; κ₂; window; κ₃; lanes; κ₄; mixes; κ₅; _36 (12); _35 (14); _34 (16); _33 (18);
-        -- _32 (20); _31 (22); _30 (24); _29 (26); _28 (28); _27 (30); _26 (32); _25 (34); _24 (36); _23 (38); _22 (40); _21 (42); _20 (44);
-        -- _19 (46); _18 (48); _17 (50); _16 (52); _15 (54); _14 (56); _13 (58); _12 (60); _11 (62); _10 (64); _9 (66); _8 (68); _7 (70); _6
-        -- (72); _5 (74); _4 (76); _3 (78); _2 (80); _1 (82); _0 (84)]
-        assigns ! (addr ! (from ! (fld ! refl (hop ! (look-in ! 82 (sub ! 0 refl (whole !))) (stop !))))) (from ! (stop !)) (init ! 46 refl
-        (tt, tt)) $
-        assigns ! (agg ! (and-then ! (load ! (from ! (stop !)) (look ! 46 refl)) (and-then ! (load ! (from ! (fld ! refl (stop !)))
-        (look-in ! 82 (sub ! 1 refl (whole !)))) (no-more !)))) (from ! (stop !)) (init ! 44 refl (
+        -- the first test failed [vs; κ; region0; κ₁; region1; κ₂; window; κ₃; lanes; κ₄; mixes; κ₅; _36 (12); _35 (14); _34 (16);
+        -- _33 (18); _32 (20); _31 (22); _30 (24); _29 (26); _28 (28); _27 (30); _26 (32); _25 (34); _24 (36); _23 (38); _22 (40);
+        -- _21 (42); _20 (44); _19 (46); _18 (48); _17 (50); _16 (52); _15 (54); _14 (56); _13 (58); _12 (60); _11 (62); _10 (64);
+        -- _9 (66); _8 (68); _7 (70); _6 (72); _5 (74); _4 (76); _3 (78); _2 (80); _1 (82); _0 (84)]
+        assigns ! (addr ! (from ! (fld ! refl (hop ! (look-in ! 82 (sub ! 0 refl (whole !))) (stop !))))) (from ! (stop !)) (init
+        ! 46 refl (tt, tt)) $
+        assigns ! (agg ! (and-then ! (load ! (from ! (stop !)) (look ! 46 refl)) (and-then ! (load ! (from ! (fld ! refl (stop
+        !))) (look-in ! 82 (sub ! 1 refl (whole !)))) (no-more !)))) (from ! (stop !)) (init ! 44 refl (
           tt,
           (
             tt,
             (
-              record { fits = room .0 },
+              record {
+                fits = room .0;
+              },
               tt,
             ),
           ),
         )) $
-        assigns ! (of-opd ! (load ! (from ! (fld ! refl (stop !))) (look-in ! 72 (sub ! 1 refl (whole !))))) (from ! (stop !)) (init ! 60
-        refl (tt, record { fits = lanes-room .0 })) $
+        assigns ! (of-opd ! (load ! (from ! (fld ! refl (stop !))) (look-in ! 72 (sub ! 1 refl (whole !))))) (from ! (stop !))
+        (init ! 60 refl (tt, record { fits = lanes-room .0 })) $
         lft-new ! tt (λ ν.
         move ! (1 ∷ 2 ∷ []) $
-        use2 W (later (some (λ (δ : GName). ‵ (ShrSlice (named 0) (ν ∷ []) R .own (x-vs δ ys) (s-vs n ∷ [])) ⊛ ‵ (LentShared R κ (ν ∷ []) q
-        γ b o ys)))) (lends-shared R κ (ν ∷ []) q γ b o 𝓤 H A W (named 0) (named 0) ys) $ await ! tt $ pick ! (λ δ.
+        use2 W (later (some (λ (δ : GName). ‵ (ShrSlice (named 0) (ν ∷ []) R .own (x-vs δ ys) (s-vs n ∷ [])) ⊛ ‵ (LentShared R κ
+        (ν ∷ []) q γ b o ys)))) (lends-shared R κ (ν ∷ []) q γ b o 𝓤 H A W (named 0) (named 0) ys) $ await ! tt $ pick ! (λ δ.
         split ! $
-        -- what `any_malformed` asks [new-vs; kept-vs; ν; region0; κ₁; region1; κ₂; window; κ₃; lanes; κ₄; mixes; κ₅; _36 (13); _35 (15);
-        -- _34 (17); _33 (19); _32 (21); _31 (23); _30 (25); _29 (27); _28 (29); _27 (31); _26 (33); _25 (35); _24 (37); _23 (39); _22 (41);
-        -- _21 (43); _20 (45); _19 (47); _18 (49); _17 (51); _16 (53); _15 (55); _14 (57); _13 (59); _12 (61); _11 (63); _10 (65); _9 (67);
-        -- _8 (69); _7 (71); _6 (73); _5 (75); _4 (77); _3 (79); _2 (81); _1 (83); _0 (85)]
+        -- what `any_malformed` asks [new-vs; kept-vs; ν; region0; κ₁; region1; κ₂; window; κ₃; lanes; κ₄; mixes; κ₅; _36 (13);
+        -- _35 (15); _34 (17); _33 (19); _32 (21); _31 (23); _30 (25); _29 (27); _28 (29); _27 (31); _26 (33); _25 (35); _24 (37);
+        -- _23 (39); _22 (41); _21 (43); _20 (45); _19 (47); _18 (49); _17 (51); _16 (53); _15 (55); _14 (57); _13 (59); _12 (61);
+        -- _11 (63); _10 (65); _9 (67); _8 (69); _7 (71); _6 (73); _5 (75); _4 (77); _3 (79); _2 (81); _1 (83); _0 (85)]
         nothing ! $
         owned ! usize (Is usize) (uint-makes 𝓤 H A W w64) (length ls-lanes) _ (refl, lanes-room .0) $
         fjoin ! $ move ! (1 ∷ 0 ∷ []) $ fjoin ! $ nothing ! $ move ! (3 ∷ 0 ∷ []) $ join ! $
         use2 W (raw (Scan 𝓤 H A at-mem run .pre (to-scan ν δ))) (goes-scan ν δ) $
-        calls-at ! (fmOf 𝓤 H (W .laws) 𝓣) (Scan 𝓤 H A at-mem run) known-scan (to-scan ν δ) (and-then ! (load ! (from ! (stop !)) (look ! 44
-        refl)) (and-then ! (load ! (from ! (stop !)) (look ! 60 refl)) (no-more !))) (λ u.
-        use1 W (later (some (λ (r : Bool). ((‵ (flft (ν ∷ []) fullShare) ⊛ ‵ ftrue) ⊛ ‵ (Boolean .own r (u ∷ []))) ⊛ raw (ensured 𝓤 H A
-        any-malformed.ended (any-malformed.clauses 𝓤 H A at-mem run) (scan-lfts ν δ) (scan-passed ν δ) tt r)))) (id⊢ 𝓤 _) $ await ! tt
-        $ pick ! (λ t.
+        calls-at ! (fmOf 𝓤 H (W .laws) 𝓣) (Scan 𝓤 H A at-mem run) known-scan (to-scan ν δ) (and-then ! (load ! (from ! (stop !))
+        (look ! 44 refl)) (and-then ! (load ! (from ! (stop !)) (look ! 60 refl)) (no-more !))) (λ u.
+        use1 W (later (some (λ (r : Bool). ((‵ (flft (ν ∷ []) fullShare) ⊛ ‵ ftrue) ⊛ ‵ (Boolean .own r (u ∷ []))) ⊛ raw (ensured
+        𝓤 H A any-malformed.ended (any-malformed.clauses 𝓤 H A at-mem run) (scan-lfts ν δ) (scan-passed ν δ) tt r)))) (id⊢ 𝓤
+        _) $ await ! tt $ pick ! (λ t.
         split ! $ move ! (1 ∷ []) $ use1 W (raw (fact 𝓤 (t ≡ bad-is))) (scan-said ν δ t) $
         heard ! (t ≡ bad-is) (λ e.
         split ! $ move ! (1 ∷ []) $
@@ -1278,7 +1328,8 @@ module _ {M : Type 1} (𝓤 : URA M) (H : Heap 𝓤) (A : Atoms 𝓤) (W : Given
         land ! (from ! (stop !)) (init ! 67 refl (bool-lawful 𝓤 H A W .typed t _ is-t .0)) $
         rewrite ! 67 (λ (w : Val). ‵ (fat fullShare (ty-of body.locals 9) l₉ 0 w)) (ap only (bool-tells t _ is-t)) refl $
         drop ! $ split ! $ lft-end ! tt $ move ! (0 ∷ 2 ∷ []) $
-        use2 W (later (‵ (Own-vs ys) ⊛ ‵ (flft κ q))) (shared-back R κ (ν ∷ []) q γ b o 𝓤 H A W (named 0) (named 0) ys room) $ await ! tt $
+        use2 W (later (‵ (Own-vs ys) ⊛ ‵ (flft κ q))) (shared-back R κ (ν ∷ []) q γ b o 𝓤 H A W (named 0) (named 0) ys room) $
+        await ! tt $
         split ! $ move ! (2 ∷ []) $ drop ! $
         assigns ! (of-opd ! (load ! (from ! (stop !)) (look ! 66 refl))) (from ! (stop !)) (init ! 48 refl (tt, tt)) $
         forget ! 66 refl $ forget ! 60 refl $ forget ! 46 refl $ forget ! 44 refl $
@@ -1288,10 +1339,11 @@ module _ {M : Type 1} (𝓤 : URA M) (H : Heap 𝓤) (A : Atoms 𝓤) (W : Given
         owned ! u8 (Is u8) (uint-makes 𝓤 H A W w8) 7 _ (refl, lit< tt) $
         fjoin ! $ nothing ! $
         use2 W (raw (Refused 𝓤 H A at-mem run .pre (to-refused 7))) (goes-refused 7) $
-        calls-at ! (fmOf 𝓤 H (W .laws) 𝓣) (Refused 𝓤 H A at-mem run) known-refused (to-refused 7) (and-then ! (lit ! tt) (no-more !)) (λ
-        u-refused.
-        use1 W (later (some (λ (r : Returned). (‵ ftrue ⊛ ‵ (Returned-T.the-row .own r (u-refused ∷ []))) ⊛ raw (ensured 𝓤 H A refuse.ended
-        (refuse.clauses 𝓤 H A at-mem run) (refused-lfts 7) (refused-passed 7) tt r)))) (id⊢ 𝓤 _) $ await ! tt $ pick ! (λ r.
+        calls-at ! (fmOf 𝓤 H (W .laws) 𝓣) (Refused 𝓤 H A at-mem run) known-refused (to-refused 7) (and-then ! (lit ! tt) (no-more
+        !)) (λ u-refused.
+        use1 W (later (some (λ (r : Returned). (‵ ftrue ⊛ ‵ (Returned-T.the-row .own r (u-refused ∷ []))) ⊛ raw (ensured 𝓤 H A
+        refuse.ended (refuse.clauses 𝓤 H A at-mem run) (refused-lfts 7) (refused-passed 7) tt r)))) (id⊢ 𝓤 _) $ await ! tt $
+        pick ! (λ r.
         split ! $ move ! (1 ∷ []) $
         use1 W (raw (fact 𝓤 (r ≡ returned 7 (listed [])))) (refused-said 7 r) $
         heard ! (r ≡ returned 7 (listed [])) (λ e-r.
@@ -1301,43 +1353,44 @@ module _ {M : Type 1} (𝓤 : URA M) (H : Heap 𝓤) (A : Atoms 𝓤) (W : Given
         rewrite ! 85 (λ (w : Val). ‵ (fat fullShare (ty-of body.locals 0) l₀ 0 w)) (ap only (LL.tells Returned-T.the-type
         Returned-L.the-laws r _ is-r)) refl $
         drop ! $
-        returns-within ! Post refl (look ! 84 refl) $ forget ! 82 refl $ forget ! 80 refl $ forget ! 78 refl $ forget ! 76 refl $ forget !
-        74 refl $ forget ! 72 refl $ forget ! 70 refl $ forget ! 48 refl $ forget ! 84 refl $
-        move ! (84 ∷ 85 ∷ []) $ free1 ! $ move ! (82 ∷ 83 ∷ []) $ free1 ! $ move ! (80 ∷ 81 ∷ []) $ free1 ! $ move ! (78 ∷ 79 ∷ []) $ free1
-        ! $ move ! (76 ∷ 77 ∷ []) $ free1 ! $ move ! (74 ∷ 75 ∷ []) $ free1 ! $ move ! (72 ∷ 73 ∷ []) $ free1 ! $ move ! (70 ∷ 71 ∷ [])
-        $ free1 ! $ move ! (68 ∷ 69 ∷ []) $ free1 ! $ move ! (66 ∷ 67 ∷ []) $ free1 ! $ move ! (64 ∷ 65 ∷ []) $ free1 ! $ move ! (62 ∷
-        63 ∷ []) $ free1 ! $ move ! (60 ∷ 61 ∷ []) $ free1 ! $ move ! (58 ∷ 59 ∷ []) $ free1 ! $ move ! (56 ∷ 57 ∷ []) $ free1 ! $ move
-        ! (54 ∷ 55 ∷ []) $ free1 ! $ move ! (52 ∷ 53 ∷ []) $ free1 ! $ move ! (50 ∷ 51 ∷ []) $ free1 ! $ move ! (48 ∷ 49 ∷ []) $ free1
-        ! $ move ! (46 ∷ 47 ∷ []) $ free1 ! $ move ! (44 ∷ 45 ∷ []) $ free1 ! $ move ! (42 ∷ 43 ∷ []) $ free1 ! $ move ! (40 ∷ 41 ∷ [])
-        $ free1 ! $ move ! (38 ∷ 39 ∷ []) $ free1 ! $ move ! (36 ∷ 37 ∷ []) $ free1 ! $ move ! (34 ∷ 35 ∷ []) $ free1 ! $ move ! (32 ∷
-        33 ∷ []) $ free1 ! $ move ! (30 ∷ 31 ∷ []) $ free1 ! $ move ! (28 ∷ 29 ∷ []) $ free1 ! $ move ! (26 ∷ 27 ∷ []) $ free1 ! $ move
-        ! (24 ∷ 25 ∷ []) $ free1 ! $ move ! (22 ∷ 23 ∷ []) $ free1 ! $ move ! (20 ∷ 21 ∷ []) $ free1 ! $ move ! (18 ∷ 19 ∷ []) $ free1
-        ! $ move ! (16 ∷ 17 ∷ []) $ free1 ! $ move ! (14 ∷ 15 ∷ []) $ free1 ! $ move ! (12 ∷ 13 ∷ []) $ free1 ! $ free0 ! $
+        returns-within ! Post refl (look ! 84 refl) $ forget ! 82 refl $ forget ! 80 refl $ forget ! 78 refl $ forget ! 76 refl $
+        forget ! 74 refl $ forget ! 72 refl $ forget ! 70 refl $ forget ! 48 refl $ forget ! 84 refl $
+        move ! (84 ∷ 85 ∷ []) $ free1 ! $ move ! (82 ∷ 83 ∷ []) $ free1 ! $ move ! (80 ∷ 81 ∷ []) $ free1 ! $ move ! (78 ∷ 79 ∷
+        []) $ free1 ! $ move ! (76 ∷ 77 ∷ []) $ free1 ! $ move ! (74 ∷ 75 ∷ []) $ free1 ! $ move ! (72 ∷ 73 ∷ []) $ free1 ! $
+        move ! (70 ∷ 71 ∷ []) $ free1 ! $ move ! (68 ∷ 69 ∷ []) $ free1 ! $ move ! (66 ∷ 67 ∷ []) $ free1 ! $ move ! (64 ∷ 65
+        ∷ []) $ free1 ! $ move ! (62 ∷ 63 ∷ []) $ free1 ! $ move ! (60 ∷ 61 ∷ []) $ free1 ! $ move ! (58 ∷ 59 ∷ []) $ free1 !
+        $ move ! (56 ∷ 57 ∷ []) $ free1 ! $ move ! (54 ∷ 55 ∷ []) $ free1 ! $ move ! (52 ∷ 53 ∷ []) $ free1 ! $ move ! (50 ∷
+        51 ∷ []) $ free1 ! $ move ! (48 ∷ 49 ∷ []) $ free1 ! $ move ! (46 ∷ 47 ∷ []) $ free1 ! $ move ! (44 ∷ 45 ∷ []) $
+        free1 ! $ move ! (42 ∷ 43 ∷ []) $ free1 ! $ move ! (40 ∷ 41 ∷ []) $ free1 ! $ move ! (38 ∷ 39 ∷ []) $ free1 ! $ move
+        ! (36 ∷ 37 ∷ []) $ free1 ! $ move ! (34 ∷ 35 ∷ []) $ free1 ! $ move ! (32 ∷ 33 ∷ []) $ free1 ! $ move ! (30 ∷ 31 ∷
+        []) $ free1 ! $ move ! (28 ∷ 29 ∷ []) $ free1 ! $ move ! (26 ∷ 27 ∷ []) $ free1 ! $ move ! (24 ∷ 25 ∷ []) $ free1 ! $
+        move ! (22 ∷ 23 ∷ []) $ free1 ! $ move ! (20 ∷ 21 ∷ []) $ free1 ! $ move ! (18 ∷ 19 ∷ []) $ free1 ! $ move ! (16 ∷ 17
+        ∷ []) $ free1 ! $ move ! (14 ∷ 15 ∷ []) $ free1 ! $ move ! (12 ∷ 13 ∷ []) $ free1 ! $ free0 ! $
         by ! (exits r ys ls-region0 ls-region1 ls-lanes ls-mixes (subst (λ (us : List Val). Is Returned-T.the-row r us) (LL.tells
-        Returned-T.the-type Returned-L.the-laws r _ is-r) is-r) refl refl refl refl refl (malformed-call fixed ls-region0 ls-region1
-        (window .now) ys ls-lanes ls-mixes r zero-is (sym e ∙ is-true t held) e-r)))))))
+        Returned-T.the-type Returned-L.the-laws r _ is-r) is-r) refl refl refl refl refl (malformed-call fixed ls-region0
+        ls-region1 (window .now) ys ls-lanes ls-mixes r zero-is (sym e ∙ is-true t held) e-r)))))))
         (λ failed.
         forget ! 48 refl $
         skips ! $ exec ! C Λ En body.t-16 (atRet En Post) $ ticks zero-is (sym e ∙ is-false t failed))))))))
 
     starts : Sq W At (runs C Λ En body.t-1 (atRet En Post))
     starts =
-        -- [vs; κ; region0; κ₁; region1; κ₂; window; κ₃; lanes; κ₄; mixes; κ₅; _36 (12); _35 (14); _34 (16); _33 (18); _32 (20); _31 (22);
-        -- _30 (24); _29 (26); _28 (28); _27 (30); _26 (32); _25 (34); _24 (36); _23 (38); _22 (40); _21 (42); _20 (44); _19 (46); _18 (48);
-        -- _17 (50); _16 (52); _15 (54); _14 (56); _13 (58); _12 (60); _11 (62); _10 (64); _9 (66); _8 (68); _7 (70); _6 (72); _5 (74); _4
-        -- (76); _3 (78); _2 (80); _1 (82); _0 (84)]
-        assigns ! (of-opd ! (load ! (from ! (fld ! refl (stop !))) (look-in ! 82 (sub ! 1 refl (whole !))))) (from ! (stop !)) (init ! 60
-        refl (tt, record { fits = room .0 })) $
-        assigns ! (of-opd ! (load ! (from ! (fld ! refl (stop !))) (look-in ! 78 (sub ! 1 refl (whole !))))) (from ! (stop !)) (init ! 58
-        refl (tt, record { fits = region0-room .0 })) $
-        assigns ! (of-opd ! (load ! (from ! (fld ! refl (stop !))) (look-in ! 76 (sub ! 1 refl (whole !))))) (from ! (stop !)) (init ! 56
-        refl (tt, record { fits = region1-room .0 })) $
-        assigns ! (of-opd ! (load ! (from ! (fld ! refl (stop !))) (look-in ! 74 (sub ! 1 refl (whole !))))) (from ! (stop !)) (init ! 54
-        refl (tt, record { fits = window-room .0 })) $
-        assigns ! (of-opd ! (load ! (from ! (fld ! refl (stop !))) (look-in ! 72 (sub ! 1 refl (whole !))))) (from ! (stop !)) (init ! 52
-        refl (tt, record { fits = lanes-room .0 })) $
-        assigns ! (of-opd ! (load ! (from ! (fld ! refl (stop !))) (look-in ! 70 (sub ! 1 refl (whole !))))) (from ! (stop !)) (init ! 50
-        refl (tt, record { fits = mixes-room .0 })) $
+        -- [vs; κ; region0; κ₁; region1; κ₂; window; κ₃; lanes; κ₄; mixes; κ₅; _36 (12); _35 (14); _34 (16); _33 (18); _32 (20);
+        -- _31 (22); _30 (24); _29 (26); _28 (28); _27 (30); _26 (32); _25 (34); _24 (36); _23 (38); _22 (40); _21 (42); _20 (44);
+        -- _19 (46); _18 (48); _17 (50); _16 (52); _15 (54); _14 (56); _13 (58); _12 (60); _11 (62); _10 (64); _9 (66); _8 (68);
+        -- _7 (70); _6 (72); _5 (74); _4 (76); _3 (78); _2 (80); _1 (82); _0 (84)]
+        assigns ! (of-opd ! (load ! (from ! (fld ! refl (stop !))) (look-in ! 82 (sub ! 1 refl (whole !))))) (from ! (stop !))
+        (init ! 60 refl (tt, record { fits = room .0 })) $
+        assigns ! (of-opd ! (load ! (from ! (fld ! refl (stop !))) (look-in ! 78 (sub ! 1 refl (whole !))))) (from ! (stop !))
+        (init ! 58 refl (tt, record { fits = region0-room .0 })) $
+        assigns ! (of-opd ! (load ! (from ! (fld ! refl (stop !))) (look-in ! 76 (sub ! 1 refl (whole !))))) (from ! (stop !))
+        (init ! 56 refl (tt, record { fits = region1-room .0 })) $
+        assigns ! (of-opd ! (load ! (from ! (fld ! refl (stop !))) (look-in ! 74 (sub ! 1 refl (whole !))))) (from ! (stop !))
+        (init ! 54 refl (tt, record { fits = window-room .0 })) $
+        assigns ! (of-opd ! (load ! (from ! (fld ! refl (stop !))) (look-in ! 72 (sub ! 1 refl (whole !))))) (from ! (stop !))
+        (init ! 52 refl (tt, record { fits = lanes-room .0 })) $
+        assigns ! (of-opd ! (load ! (from ! (fld ! refl (stop !))) (look-in ! 70 (sub ! 1 refl (whole !))))) (from ! (stop !))
+        (init ! 50 refl (tt, record { fits = mixes-room .0 })) $
         nothing ! $
         owned ! usize (Is usize) (uint-makes 𝓤 H A W w64) (length ls-mixes) _ (refl, mixes-room .0) $
         fjoin ! $
@@ -1354,11 +1407,11 @@ module _ {M : Type 1} (𝓤 : URA M) (H : Heap 𝓤) (A : Atoms 𝓤) (W : Given
         owned ! Fixed-T.the-row (Is Fixed-T.the-row) (LL.makes Fixed-T.the-type Fixed-L.the-plain 𝓤 H A) fixed _ (fixed-fits) $
         fjoin ! $ nothing ! $
         use2 W (raw (Refusal 𝓤 H A at-mem run .pre to-refusal)) (goes-refusal) $
-        calls-at ! (fmOf 𝓤 H (W .laws) 𝓣) (Refusal 𝓤 H A at-mem run) known-refusal to-refusal (and-then ! (load ! (from ! (stop !)) (look !
-        81 refl)) (and-then ! (load ! (from ! (stop !)) (look ! 61 refl)) (and-then ! (load ! (from ! (stop !)) (look ! 59 refl))
-        (and-then ! (load ! (from ! (stop !)) (look ! 57 refl)) (and-then ! (load ! (from ! (stop !)) (look ! 55 refl)) (and-then !
-        (load ! (from ! (stop !)) (look ! 53 refl)) (and-then ! (load ! (from ! (stop !)) (look ! 51 refl)) (no-more !)))))))) (λ
-        u-refusal.
+        calls-at ! (fmOf 𝓤 H (W .laws) 𝓣) (Refusal 𝓤 H A at-mem run) known-refusal to-refusal (and-then ! (load ! (from ! (stop
+        !)) (look ! 81 refl)) (and-then ! (load ! (from ! (stop !)) (look ! 61 refl)) (and-then ! (load ! (from ! (stop !))
+        (look ! 59 refl)) (and-then ! (load ! (from ! (stop !)) (look ! 57 refl)) (and-then ! (load ! (from ! (stop !)) (look
+        ! 55 refl)) (and-then ! (load ! (from ! (stop !)) (look ! 53 refl)) (and-then ! (load ! (from ! (stop !)) (look ! 51
+        refl)) (no-more !)))))))) (λ u-refusal.
         use1 W (later (some (λ (r : ℕ). (‵ ftrue ⊛ ‵ (u8 .own r (u-refusal ∷ []))) ⊛ raw (ensured 𝓤 H A lengths-number.ended
         (lengths-number.clauses 𝓤 H A at-mem run) refusal-lfts refusal-passed tt r)))) (id⊢ 𝓤 _) $ await ! tt $ pick ! (λ k.
         split ! $ move ! (1 ∷ []) $ use1 W (raw (fact 𝓤 (k ≡ code-is))) (refusal-said k) $
@@ -1376,10 +1429,11 @@ module _ {M : Type 1} (𝓤 : URA M) (H : Heap 𝓤) (A : Atoms 𝓤) (W : Given
         owned ! u8 (Is u8) (uint-makes 𝓤 H A W w8) k _ (refl, is-k .1) $
         fjoin ! $ nothing ! $
         use2 W (raw (Refused 𝓤 H A at-mem run .pre (to-refused k))) (goes-refused k) $
-        calls-at ! (fmOf 𝓤 H (W .laws) 𝓣) (Refused 𝓤 H A at-mem run) known-refused (to-refused k) (and-then ! (load ! (from ! (stop !))
-        (look ! 69 refl)) (no-more !)) (λ u-refused.
-        use1 W (later (some (λ (r : Returned). (‵ ftrue ⊛ ‵ (Returned-T.the-row .own r (u-refused ∷ []))) ⊛ raw (ensured 𝓤 H A refuse.ended
-        (refuse.clauses 𝓤 H A at-mem run) (refused-lfts k) (refused-passed k) tt r)))) (id⊢ 𝓤 _) $ await ! tt $ pick ! (λ r.
+        calls-at ! (fmOf 𝓤 H (W .laws) 𝓣) (Refused 𝓤 H A at-mem run) known-refused (to-refused k) (and-then ! (load ! (from !
+        (stop !)) (look ! 69 refl)) (no-more !)) (λ u-refused.
+        use1 W (later (some (λ (r : Returned). (‵ ftrue ⊛ ‵ (Returned-T.the-row .own r (u-refused ∷ []))) ⊛ raw (ensured 𝓤 H A
+        refuse.ended (refuse.clauses 𝓤 H A at-mem run) (refused-lfts k) (refused-passed k) tt r)))) (id⊢ 𝓤 _) $ await ! tt $
+        pick ! (λ r.
         split ! $ move ! (1 ∷ []) $
         use1 W (raw (fact 𝓤 (r ≡ returned k (listed [])))) (refused-said k r) $
         heard ! (r ≡ returned k (listed [])) (λ e-r.
@@ -1389,21 +1443,22 @@ module _ {M : Type 1} (𝓤 : URA M) (H : Heap 𝓤) (A : Atoms 𝓤) (W : Given
         rewrite ! 85 (λ (w : Val). ‵ (fat fullShare (ty-of body.locals 0) l₀ 0 w)) (ap only (LL.tells Returned-T.the-type
         Returned-L.the-laws r _ is-r)) refl $
         drop ! $
-        returns-within ! Post refl (look ! 84 refl) $ forget ! 82 refl $ forget ! 80 refl $ forget ! 78 refl $ forget ! 76 refl $ forget !
-        74 refl $ forget ! 72 refl $ forget ! 70 refl $ forget ! 68 refl $ forget ! 48 refl $ forget ! 84 refl $
-        move ! (84 ∷ 85 ∷ []) $ free1 ! $ move ! (82 ∷ 83 ∷ []) $ free1 ! $ move ! (80 ∷ 81 ∷ []) $ free1 ! $ move ! (78 ∷ 79 ∷ []) $ free1
-        ! $ move ! (76 ∷ 77 ∷ []) $ free1 ! $ move ! (74 ∷ 75 ∷ []) $ free1 ! $ move ! (72 ∷ 73 ∷ []) $ free1 ! $ move ! (70 ∷ 71 ∷ [])
-        $ free1 ! $ move ! (68 ∷ 69 ∷ []) $ free1 ! $ move ! (66 ∷ 67 ∷ []) $ free1 ! $ move ! (64 ∷ 65 ∷ []) $ free1 ! $ move ! (62 ∷
-        63 ∷ []) $ free1 ! $ move ! (60 ∷ 61 ∷ []) $ free1 ! $ move ! (58 ∷ 59 ∷ []) $ free1 ! $ move ! (56 ∷ 57 ∷ []) $ free1 ! $ move
-        ! (54 ∷ 55 ∷ []) $ free1 ! $ move ! (52 ∷ 53 ∷ []) $ free1 ! $ move ! (50 ∷ 51 ∷ []) $ free1 ! $ move ! (48 ∷ 49 ∷ []) $ free1
-        ! $ move ! (46 ∷ 47 ∷ []) $ free1 ! $ move ! (44 ∷ 45 ∷ []) $ free1 ! $ move ! (42 ∷ 43 ∷ []) $ free1 ! $ move ! (40 ∷ 41 ∷ [])
-        $ free1 ! $ move ! (38 ∷ 39 ∷ []) $ free1 ! $ move ! (36 ∷ 37 ∷ []) $ free1 ! $ move ! (34 ∷ 35 ∷ []) $ free1 ! $ move ! (32 ∷
-        33 ∷ []) $ free1 ! $ move ! (30 ∷ 31 ∷ []) $ free1 ! $ move ! (28 ∷ 29 ∷ []) $ free1 ! $ move ! (26 ∷ 27 ∷ []) $ free1 ! $ move
-        ! (24 ∷ 25 ∷ []) $ free1 ! $ move ! (22 ∷ 23 ∷ []) $ free1 ! $ move ! (20 ∷ 21 ∷ []) $ free1 ! $ move ! (18 ∷ 19 ∷ []) $ free1
-        ! $ move ! (16 ∷ 17 ∷ []) $ free1 ! $ move ! (14 ∷ 15 ∷ []) $ free1 ! $ move ! (12 ∷ 13 ∷ []) $ free1 ! $ free0 ! $
+        returns-within ! Post refl (look ! 84 refl) $ forget ! 82 refl $ forget ! 80 refl $ forget ! 78 refl $ forget ! 76 refl $
+        forget ! 74 refl $ forget ! 72 refl $ forget ! 70 refl $ forget ! 68 refl $ forget ! 48 refl $ forget ! 84 refl $
+        move ! (84 ∷ 85 ∷ []) $ free1 ! $ move ! (82 ∷ 83 ∷ []) $ free1 ! $ move ! (80 ∷ 81 ∷ []) $ free1 ! $ move ! (78 ∷ 79 ∷
+        []) $ free1 ! $ move ! (76 ∷ 77 ∷ []) $ free1 ! $ move ! (74 ∷ 75 ∷ []) $ free1 ! $ move ! (72 ∷ 73 ∷ []) $ free1 ! $
+        move ! (70 ∷ 71 ∷ []) $ free1 ! $ move ! (68 ∷ 69 ∷ []) $ free1 ! $ move ! (66 ∷ 67 ∷ []) $ free1 ! $ move ! (64 ∷ 65
+        ∷ []) $ free1 ! $ move ! (62 ∷ 63 ∷ []) $ free1 ! $ move ! (60 ∷ 61 ∷ []) $ free1 ! $ move ! (58 ∷ 59 ∷ []) $ free1 !
+        $ move ! (56 ∷ 57 ∷ []) $ free1 ! $ move ! (54 ∷ 55 ∷ []) $ free1 ! $ move ! (52 ∷ 53 ∷ []) $ free1 ! $ move ! (50 ∷
+        51 ∷ []) $ free1 ! $ move ! (48 ∷ 49 ∷ []) $ free1 ! $ move ! (46 ∷ 47 ∷ []) $ free1 ! $ move ! (44 ∷ 45 ∷ []) $
+        free1 ! $ move ! (42 ∷ 43 ∷ []) $ free1 ! $ move ! (40 ∷ 41 ∷ []) $ free1 ! $ move ! (38 ∷ 39 ∷ []) $ free1 ! $ move
+        ! (36 ∷ 37 ∷ []) $ free1 ! $ move ! (34 ∷ 35 ∷ []) $ free1 ! $ move ! (32 ∷ 33 ∷ []) $ free1 ! $ move ! (30 ∷ 31 ∷
+        []) $ free1 ! $ move ! (28 ∷ 29 ∷ []) $ free1 ! $ move ! (26 ∷ 27 ∷ []) $ free1 ! $ move ! (24 ∷ 25 ∷ []) $ free1 ! $
+        move ! (22 ∷ 23 ∷ []) $ free1 ! $ move ! (20 ∷ 21 ∷ []) $ free1 ! $ move ! (18 ∷ 19 ∷ []) $ free1 ! $ move ! (16 ∷ 17
+        ∷ []) $ free1 ! $ move ! (14 ∷ 15 ∷ []) $ free1 ! $ move ! (12 ∷ 13 ∷ []) $ free1 ! $ free0 ! $
         by ! (exits r ys ls-region0 ls-region1 ls-lanes ls-mixes (subst (λ (us : List Val). Is Returned-T.the-row r us) (LL.tells
-        Returned-T.the-type Returned-L.the-laws r _ is-r) is-r) refl refl refl refl refl (refused-call fixed ls-region0 ls-region1
-        (window .now) ys ls-lanes ls-mixes r k e held e-r)))))))
+        Returned-T.the-type Returned-L.the-laws r _ is-r) is-r) refl refl refl refl refl (refused-call fixed ls-region0
+        ls-region1 (window .now) ys ls-lanes ls-mixes r k e held e-r)))))))
         (λ failed.
         forget ! 68 refl $ forget ! 48 refl $
         skips ! $ exec ! C Λ En body.t-10 (atRet En Post) $ scans (sym e ∙ no-refusal k failed))))))
@@ -1411,24 +1466,42 @@ module _ {M : Type 1} (𝓤 : URA M) (H : Heap 𝓤) (A : Atoms 𝓤) (W : Given
     runs-from : ent 𝓤 (⋆ 𝓤 H A At) (Wp 𝓤 H C Λ En body.t-1 (atReturn 𝓤 H En Post))
     runs-from = qed W At ∵ exec ! C Λ En body.t-1 (atRet En Post) $ starts
 
-  walk : (𝓣 : Tables 𝓤 H) → Triple 𝓤 (𝓣 .C #voices·lengths-number) (Refusal 𝓤 H A at-mem run) → Triple 𝓤 (𝓣 .C #voices·refuse) (Refused 𝓤 H
-      A at-mem run) → Triple 𝓤 (𝓣 .C #voices·any-malformed) (Scan 𝓤 H A at-mem run) → Triple 𝓤 (𝓣 .C #voices·begin) (Open 𝓤 H A at-mem run)
-      → Triple 𝓤 (𝓣 .C #voices·serve-all) (Tick 𝓤 H A at-mem run) → Triple 𝓤 (𝓣 .C #voices·finish) (Done 𝓤 H A at-mem run) → ent 𝓤 (onEntry
-      𝓤 H A f.signature (κ, (κ₁, (κ₂, (κ₃, (κ₄, (κ₅, tt)))))) (q, (q₁, (q₂, (q₃, (q₄, (q₅, tt)))))) a vals) (WpFn 𝓤 H (𝓣 .C) (𝓣 .Λ)
-      code.function (s-vs n ∷ LL.val Fixed-T.the-type Fixed-L.the-laws fixed ∷ s-region0 (length ls-region0) ∷ s-region1 (length
-      ls-region1) ∷ s-window ∷ s-lanes (length ls-lanes) ∷ s-mixes (length ls-mixes) ∷ []) Post)
+  walk : (𝓣 : Tables 𝓤 H) → Triple 𝓤 (𝓣 .C #voices·lengths-number) (Refusal 𝓤 H A at-mem run) → Triple 𝓤 (𝓣 .C #voices·refuse)
+      (Refused 𝓤 H A at-mem run) → Triple 𝓤 (𝓣 .C #voices·any-malformed) (Scan 𝓤 H A at-mem run) → Triple 𝓤 (𝓣 .C #voices·begin)
+      (Open 𝓤 H A at-mem run) → Triple 𝓤 (𝓣 .C #voices·serve-all) (Tick 𝓤 H A at-mem run) → Triple 𝓤 (𝓣 .C #voices·finish) (Done
+      𝓤 H A at-mem run) → ent 𝓤 (onEntry 𝓤 H A f.signature (κ, (κ₁, (κ₂, (κ₃, (κ₄, (κ₅, tt)))))) (
+        q,
+        (
+          q₁,
+          (
+            q₂,
+            (
+              q₃,
+              (
+                q₄,
+                (
+                  q₅,
+                  tt,
+                ),
+              ),
+            ),
+          ),
+        ),
+      ) a vals) (WpFn 𝓤 H (𝓣 .C) (𝓣 .Λ) code.function (s-vs n ∷ LL.val Fixed-T.the-type Fixed-L.the-laws fixed ∷ s-region0
+      (length ls-region0) ∷ s-region1 (length ls-region1) ∷ s-window ∷ s-lanes (length ls-lanes) ∷ s-mixes (length ls-mixes) ∷
+      []) Post)
   walk 𝓣 known-refusal known-refused known-scan known-open known-tick known-done =
-      qed W ((‵ (flft κ q) ⊛ ‵ (flft κ₁ q₁) ⊛ ‵ (flft κ₂ q₂) ⊛ ‵ (flft κ₃ q₃) ⊛ ‵ (flft κ₄ q₄) ⊛ ‵ (flft κ₅ q₅) ⊛ ‵ ftrue) ∷ ‵ (owns
-      (MutSlice (named 0) κ R ∷ Fixed-T.the-row ∷ MutSlice (named 1) κ₁ u8 ∷ MutSlice (named 2) κ₂ u8 ∷ ShrSlice (named 3) κ₃ u8 ∷
-      MutSlice (named 4) κ₄ i16 ∷ MutSlice (named 5) κ₅ i32 ∷ []) a vals) ∷ []) ∵ enter ! (𝓣 .C) (𝓣 .Λ) code.function (s-vs n ∷ LL.val
-      Fixed-T.the-type Fixed-L.the-laws fixed ∷ s-region0 (length ls-region0) ∷ s-region1 (length ls-region1) ∷ s-window ∷ s-lanes
-      (length ls-lanes) ∷ s-mixes (length ls-mixes) ∷ []) _ $
-      alloc1 ! (λ l₀. alloc1 ! (λ l₁. alloc1 ! (λ l₂. alloc1 ! (λ l₃. alloc1 ! (λ l₄. alloc1 ! (λ l₅. alloc1 ! (λ l₆. alloc1 ! (λ l₇.
-      alloc1 ! (λ l₈. alloc1 ! (λ l₉. alloc1 ! (λ l₁₀. alloc1 ! (λ l₁₁. alloc1 ! (λ l₁₂. alloc1 ! (λ l₁₃. alloc1 ! (λ l₁₄. alloc1 ! (λ
-      l₁₅. alloc1 ! (λ l₁₆. alloc1 ! (λ l₁₇. alloc1 ! (λ l₁₈. alloc1 ! (λ l₁₉. alloc1 ! (λ l₂₀. alloc1 ! (λ l₂₁. alloc1 ! (λ l₂₂.
-      alloc1 ! (λ l₂₃. alloc1 ! (λ l₂₄. alloc1 ! (λ l₂₅. alloc1 ! (λ l₂₆. alloc1 ! (λ l₂₇. alloc1 ! (λ l₂₈. alloc1 ! (λ l₂₉. alloc1 !
-      (λ l₃₀. alloc1 ! (λ l₃₁. alloc1 ! (λ l₃₂. alloc1 ! (λ l₃₃. alloc1 ! (λ l₃₄. alloc1 ! (λ l₃₅. alloc1 ! (λ l₃₆. alloc0 ! $ params1
-      ! $
+      qed W ((‵ (flft κ q) ⊛ ‵ (flft κ₁ q₁) ⊛ ‵ (flft κ₂ q₂) ⊛ ‵ (flft κ₃ q₃) ⊛ ‵ (flft κ₄ q₄) ⊛ ‵ (flft κ₅ q₅) ⊛ ‵ ftrue) ∷ ‵
+      (owns (MutSlice (named 0) κ R ∷ Fixed-T.the-row ∷ MutSlice (named 1) κ₁ u8 ∷ MutSlice (named 2) κ₂ u8 ∷ ShrSlice (named
+      3) κ₃ u8 ∷ MutSlice (named 4) κ₄ i16 ∷ MutSlice (named 5) κ₅ i32 ∷ []) a vals) ∷ []) ∵ enter ! (𝓣 .C) (𝓣 .Λ)
+      code.function (s-vs n ∷ LL.val Fixed-T.the-type Fixed-L.the-laws fixed ∷ s-region0 (length ls-region0) ∷ s-region1
+      (length ls-region1) ∷ s-window ∷ s-lanes (length ls-lanes) ∷ s-mixes (length ls-mixes) ∷ []) _ $
+      alloc1 ! (λ l₀. alloc1 ! (λ l₁. alloc1 ! (λ l₂. alloc1 ! (λ l₃. alloc1 ! (λ l₄. alloc1 ! (λ l₅. alloc1 ! (λ l₆. alloc1 ! (λ
+      l₇. alloc1 ! (λ l₈. alloc1 ! (λ l₉. alloc1 ! (λ l₁₀. alloc1 ! (λ l₁₁. alloc1 ! (λ l₁₂. alloc1 ! (λ l₁₃. alloc1 ! (λ
+      l₁₄. alloc1 ! (λ l₁₅. alloc1 ! (λ l₁₆. alloc1 ! (λ l₁₇. alloc1 ! (λ l₁₈. alloc1 ! (λ l₁₉. alloc1 ! (λ l₂₀. alloc1 ! (λ
+      l₂₁. alloc1 ! (λ l₂₂. alloc1 ! (λ l₂₃. alloc1 ! (λ l₂₄. alloc1 ! (λ l₂₅. alloc1 ! (λ l₂₆. alloc1 ! (λ l₂₇. alloc1 ! (λ
+      l₂₈. alloc1 ! (λ l₂₉. alloc1 ! (λ l₃₀. alloc1 ! (λ l₃₁. alloc1 ! (λ l₃₂. alloc1 ! (λ l₃₃. alloc1 ! (λ l₃₄. alloc1 ! (λ
+      l₃₅. alloc1 ! (λ l₃₆. alloc0 ! $ params1 ! $
       pass1 ! (init ! 70 refl (tt, (tt, (record { fits = room .0 }, tt)))) $
       pass1 ! (init ! 68 refl (LL.lawful Fixed-T.the-type Fixed-L.the-laws 𝓤 H A W .typed fixed _ (fixed-fits) .0)) $
       pass1 ! (init ! 66 refl (tt, (tt, (record { fits = region0-room .0 }, tt)))) $
@@ -1436,26 +1509,28 @@ module _ {M : Type 1} (𝓤 : URA M) (H : Heap 𝓤) (A : Atoms 𝓤) (W : Given
       pass1 ! (init ! 62 refl (tt, (tt, (record { fits = window-room .0 }, tt)))) $
       pass1 ! (init ! 60 refl (tt, (tt, (record { fits = lanes-room .0 }, tt)))) $
       pass1 ! (init ! 58 refl (tt, (tt, (record { fits = mixes-room .0 }, tt)))) $
-      pass0 ! $ move ! (75 ∷ []) $ fsplit ! $ move ! (1 ∷ []) $ fsplit ! $ drop ! $ fsplit ! $ move ! (1 ∷ []) $ fsplit ! $ move ! (1 ∷ [])
-      $ fsplit ! $ move ! (1 ∷ []) $ fsplit ! $ move ! (1 ∷ []) $
-      fsplit ! $ move ! (1 ∷ []) $ drop ! $ move ! (80 ∷ []) $ split ! $ move ! (1 ∷ []) $ split ! $ move ! (1 ∷ []) $ split ! $ move ! (1
-      ∷ []) $ split ! $ move ! (1 ∷ []) $ split ! $ move ! (1 ∷ []) $
+      pass0 ! $ move ! (75 ∷ []) $ fsplit ! $ move ! (1 ∷ []) $ fsplit ! $ drop ! $ fsplit ! $ move ! (1 ∷ []) $ fsplit ! $ move
+      ! (1 ∷ []) $ fsplit ! $ move ! (1 ∷ []) $ fsplit ! $ move ! (1 ∷ []) $
+      fsplit ! $ move ! (1 ∷ []) $ drop ! $ move ! (80 ∷ []) $ split ! $ move ! (1 ∷ []) $ split ! $ move ! (1 ∷ []) $ split ! $
+      move ! (1 ∷ []) $ split ! $ move ! (1 ∷ []) $ split ! $ move ! (1 ∷ []) $
       split ! $ move ! (1 ∷ []) $ drop ! $
-      keep ! (11 ∷ 5 ∷ 10 ∷ 4 ∷ 9 ∷ 3 ∷ 8 ∷ 2 ∷ 7 ∷ 1 ∷ 6 ∷ 0 ∷ 12 ∷ 13 ∷ 14 ∷ 15 ∷ 16 ∷ 17 ∷ 18 ∷ 19 ∷ 20 ∷ 21 ∷ 22 ∷ 23 ∷ 24 ∷ 25 ∷ 26 ∷
-      27 ∷ 28 ∷ 29 ∷ 30 ∷ 31 ∷ 32 ∷ 33 ∷ 34 ∷ 35 ∷ 36 ∷ 37 ∷ 38 ∷ 39 ∷ 40 ∷ 41 ∷ 42 ∷ 43 ∷ 44 ∷ 45 ∷ 46 ∷ 47 ∷ 48 ∷ 49 ∷ 50 ∷ 51 ∷ 52 ∷
-      53 ∷ 54 ∷ 55 ∷ 56 ∷ 57 ∷ 58 ∷ 59 ∷ 60 ∷ 61 ∷ 62 ∷ 63 ∷ 64 ∷ 65 ∷ 66 ∷ 67 ∷ 68 ∷ 69 ∷ 70 ∷ 71 ∷ 72 ∷ 73 ∷ 74 ∷ 75 ∷ 76 ∷ 77 ∷ 78 ∷
-      79 ∷ 80 ∷ 81 ∷ 82 ∷ 83 ∷ 84 ∷ 85 ∷ []) $
-      by ! (runs-from 𝓣 known-refusal known-refused known-scan known-open known-tick known-done l₀ l₁ l₂ l₃ l₄ l₅ l₆ l₇ l₈ l₉ l₁₀ l₁₁ l₁₂
-      l₁₃ l₁₄ l₁₅ l₁₆ l₁₇ l₁₈ l₁₉ l₂₀ l₂₁ l₂₂ l₂₃ l₂₄ l₂₅ l₂₆ l₂₇ l₂₈ l₂₉ l₃₀ l₃₁ l₃₂ l₃₃ l₃₄ l₃₅
+      keep ! (11 ∷ 5 ∷ 10 ∷ 4 ∷ 9 ∷ 3 ∷ 8 ∷ 2 ∷ 7 ∷ 1 ∷ 6 ∷ 0 ∷ 12 ∷ 13 ∷ 14 ∷ 15 ∷ 16 ∷ 17 ∷ 18 ∷ 19 ∷ 20 ∷ 21 ∷ 22 ∷ 23 ∷ 24 ∷
+      25 ∷ 26 ∷ 27 ∷ 28 ∷ 29 ∷ 30 ∷ 31 ∷ 32 ∷ 33 ∷ 34 ∷ 35 ∷ 36 ∷ 37 ∷ 38 ∷ 39 ∷ 40 ∷ 41 ∷ 42 ∷ 43 ∷ 44 ∷ 45 ∷ 46 ∷ 47 ∷ 48 ∷
+      49 ∷ 50 ∷ 51 ∷ 52 ∷ 53 ∷ 54 ∷ 55 ∷ 56 ∷ 57 ∷ 58 ∷ 59 ∷ 60 ∷ 61 ∷ 62 ∷ 63 ∷ 64 ∷ 65 ∷ 66 ∷ 67 ∷ 68 ∷ 69 ∷ 70 ∷ 71 ∷ 72 ∷
+      73 ∷ 74 ∷ 75 ∷ 76 ∷ 77 ∷ 78 ∷ 79 ∷ 80 ∷ 81 ∷ 82 ∷ 83 ∷ 84 ∷ 85 ∷ []) $
+      by ! (runs-from 𝓣 known-refusal known-refused known-scan known-open known-tick known-done l₀ l₁ l₂ l₃ l₄ l₅ l₆ l₇ l₈ l₉ l₁₀
+      l₁₁ l₁₂ l₁₃ l₁₄ l₁₅ l₁₆ l₁₇ l₁₈ l₁₉ l₂₀ l₂₁ l₂₂ l₂₃ l₂₄ l₂₅ l₂₆ l₂₇ l₂₈ l₂₉ l₃₀ l₃₁ l₃₂ l₃₃ l₃₄ l₃₅
       l₃₆))))))))))))))))))))))))))))))))))))))
 
-module _ {M : Type 1} (𝓤 : URA M) (H : Heap 𝓤) (A : Atoms 𝓤) (W : Given 𝓤 H A) (at-mem : Memory → SProp 𝓤) (run : Routine → Fun 𝓤) where
-  tick-walks : (𝓣 : Tables 𝓤 H) → Triple 𝓤 (𝓣 .C #voices·lengths-number) (Refusal 𝓤 H A at-mem run) → Triple 𝓤 (𝓣 .C #voices·refuse)
-      (Refused 𝓤 H A at-mem run) → Triple 𝓤 (𝓣 .C #voices·any-malformed) (Scan 𝓤 H A at-mem run) → Triple 𝓤 (𝓣 .C #voices·begin) (Open 𝓤 H
-      A at-mem run) → Triple 𝓤 (𝓣 .C #voices·serve-all) (Tick 𝓤 H A at-mem run) → Triple 𝓤 (𝓣 .C #voices·finish) (Done 𝓤 H A at-mem run) →
-      Walks 𝓤 H A f.ended stayed (WpFn 𝓤 H (𝓣 .C) (𝓣 .Λ) code.function) (f.clauses 𝓤 H A at-mem run)
-  tick-walks 𝓣 known-refusal known-refused known-scan known-open known-tick known-done = walked 𝓤 H A f.ended stayed (f.clauses 𝓤 H A
-      at-mem run) (WpFn 𝓤 H (𝓣 .C) (𝓣 .Λ) code.function)
+module _ {M : Type 1} (𝓤 : URA M) (H : Heap 𝓤) (A : Atoms 𝓤) (W : Given 𝓤 H A) (at-mem : Memory → SProp 𝓤) (run : Routine → Fun
+    𝓤) where
+  tick-walks : (𝓣 : Tables 𝓤 H) → Triple 𝓤 (𝓣 .C #voices·lengths-number) (Refusal 𝓤 H A at-mem run) → Triple 𝓤 (𝓣 .C
+      #voices·refuse) (Refused 𝓤 H A at-mem run) → Triple 𝓤 (𝓣 .C #voices·any-malformed) (Scan 𝓤 H A at-mem run) → Triple 𝓤 (𝓣 .C
+      #voices·begin) (Open 𝓤 H A at-mem run) → Triple 𝓤 (𝓣 .C #voices·serve-all) (Tick 𝓤 H A at-mem run) → Triple 𝓤 (𝓣 .C
+      #voices·finish) (Done 𝓤 H A at-mem run) → Walks 𝓤 H A f.ended stayed (WpFn 𝓤 H (𝓣 .C) (𝓣 .Λ) code.function) (f.clauses 𝓤 H
+      A at-mem run)
+  tick-walks 𝓣 known-refusal known-refused known-scan known-open known-tick known-done = walked 𝓤 H A f.ended stayed (f.clauses 𝓤
+      H A at-mem run) (WpFn 𝓤 H (𝓣 .C) (𝓣 .Λ) code.function)
       (λ κs. (
         slice-vals,
         (
@@ -1468,10 +1543,7 @@ module _ {M : Type 1} (𝓤 : URA M) (H : Heap 𝓤) (A : Atoms 𝓤) (W : Given
                 slice-vals,
                 (
                   slice-vals,
-                  (
-                    slice-vals,
-                    tt,
-                  ),
+                  (slice-vals, tt),
                 ),
               ),
             ),
@@ -1482,16 +1554,19 @@ module _ {M : Type 1} (𝓤 : URA M) (H : Heap 𝓤) (A : Atoms 𝓤) (W : Given
         (
           LL.tells Fixed-T.the-type Fixed-L.the-laws,
           (
-            mut-slice-tells (named 1)
-                (κs .1 .0) u8,
+            mut-slice-tells (named 1) (κs .1 .0) u8,
             (
               mut-slice-tells (named 2) (κs .1 .1 .0) u8,
               (
-                shr-slice-tells (named 3) (κs .1 .1 .1 .0) u8,
+                shr-slice-tells (named 3) (κs
+                    .1 .1 .1 .0) u8,
                 (
-                  mut-slice-tells
-                      (named 4) (κs .1 .1 .1 .1 .0) i16,
-                  (mut-slice-tells (named 5) (κs .1 .1 .1 .1 .1 .0) i32, tt),
+                  mut-slice-tells (named 4) (κs .1 .1 .1 .1 .0) i16,
+                  (
+                    mut-slice-tells (named 5) (κs .1 .1 .1 .1 .1 .0)
+                        i32,
+                    tt,
+                  ),
                 ),
               ),
             ),
@@ -1499,37 +1574,38 @@ module _ {M : Type 1} (𝓤 : URA M) (H : Heap 𝓤) (A : Atoms 𝓤) (W : Given
         ),
       ))
       (λ κs qs bounds a g are. via 𝓤 _ (fst∗ 𝓤 _ (emp 𝓤))
-      (walk 𝓤 H A W at-mem run (κs .0) (κs .1 .0) (κs .1 .1 .0) (κs .1 .1 .1 .0) (κs .1 .1 .1 .1 .0) (κs .1 .1 .1 .1 .1 .0) (qs .0) (qs .1
-      .0) (qs .1 .1 .0) (qs .1 .1 .1 .0) (qs .1 .1 .1 .1 .0) (qs .1 .1 .1 .1 .1 .0) (a .0 .ptr .0) (a .0 .ptr .1) (a .0 .name) (a .0
-      .now) (a .1 .0) (a .1 .1 .0 .ptr .0) (a .1 .1 .0 .ptr .1) (a .1 .1 .0 .name) (a .1 .1 .0 .now) (a .1 .1 .1 .0 .ptr .0) (a .1 .1
-      .1 .0 .ptr .1) (a .1 .1 .1 .0 .name) (a .1 .1 .1 .0 .now) (a .1 .1 .1 .1 .1 .0 .ptr .0) (a .1 .1 .1 .1 .1 .0 .ptr .1) (a .1 .1 .1
-      .1 .1 .0 .name) (a .1 .1 .1 .1 .1 .0 .now) (a .1 .1 .1 .1 .1 .1 .0 .ptr .0) (a .1 .1 .1 .1 .1 .1 .0 .ptr .1) (a .1 .1 .1 .1 .1 .1
-      .0 .name) (a .1 .1 .1 .1 .1 .1 .0 .now) (a .1 .1 .1 .1 .0) (are .1 .0) (are .0 .0 .1) (are .1 .1 .0 .0 .1) (are .1 .1 .1 .0 .0
-      .1) (are .1 .1 .1 .1 .1 .0 .0 .1) (are .1 .1 .1 .1 .1 .1 .0 .0 .1) (are .1 .1 .1 .1 .0 .0 .1) 𝓣 known-refusal known-refused
-      known-scan known-open known-tick known-done))
+      (walk 𝓤 H A W at-mem run (κs .0) (κs .1 .0) (κs .1 .1 .0) (κs .1 .1 .1 .0) (κs .1 .1 .1 .1 .0) (κs .1 .1 .1 .1 .1 .0) (qs
+      .0) (qs .1 .0) (qs .1 .1 .0) (qs .1 .1 .1 .0) (qs .1 .1 .1 .1 .0) (qs .1 .1 .1 .1 .1 .0) (a .0 .ptr .0) (a .0 .ptr .1)
+      (a .0 .name) (a .0 .now) (a .1 .0) (a .1 .1 .0 .ptr .0) (a .1 .1 .0 .ptr .1) (a .1 .1 .0 .name) (a .1 .1 .0 .now) (a .1
+      .1 .1 .0 .ptr .0) (a .1 .1 .1 .0 .ptr .1) (a .1 .1 .1 .0 .name) (a .1 .1 .1 .0 .now) (a .1 .1 .1 .1 .1 .0 .ptr .0) (a
+      .1 .1 .1 .1 .1 .0 .ptr .1) (a .1 .1 .1 .1 .1 .0 .name) (a .1 .1 .1 .1 .1 .0 .now) (a .1 .1 .1 .1 .1 .1 .0 .ptr .0) (a
+      .1 .1 .1 .1 .1 .1 .0 .ptr .1) (a .1 .1 .1 .1 .1 .1 .0 .name) (a .1 .1 .1 .1 .1 .1 .0 .now) (a .1 .1 .1 .1 .0) (are .1
+      .0) (are .0 .0 .1) (are .1 .1 .0 .0 .1) (are .1 .1 .1 .0 .0 .1) (are .1 .1 .1 .1 .1 .0 .0 .1) (are .1 .1 .1 .1 .1 .1 .0
+      .0 .1) (are .1 .1 .1 .1 .0 .0 .1) 𝓣 known-refusal known-refused known-scan known-open known-tick known-done))
 
-tick-meets : {M : Type 1} (𝓤 : URA M) (H : Heap 𝓤) (A : Atoms 𝓤) → Given 𝓤 H A → (at-mem : Memory → SProp 𝓤) (run : Routine → Fun 𝓤) (𝓣 :
-    Tables 𝓤 H) → Triple 𝓤 (𝓣 .C #voices·lengths-number) (Refusal 𝓤 H A at-mem run) → Triple 𝓤 (𝓣 .C #voices·refuse) (Refused 𝓤 H A at-mem
-    run) → Triple 𝓤 (𝓣 .C #voices·any-malformed) (Scan 𝓤 H A at-mem run) → Triple 𝓤 (𝓣 .C #voices·begin) (Open 𝓤 H A at-mem run) → Triple 𝓤
-    (𝓣 .C #voices·serve-all) (Tick 𝓤 H A at-mem run) → Triple 𝓤 (𝓣 .C #voices·finish) (Done 𝓤 H A at-mem run)
+tick-meets : {M : Type 1} (𝓤 : URA M) (H : Heap 𝓤) (A : Atoms 𝓤) → Given 𝓤 H A → (at-mem : Memory → SProp 𝓤) (run : Routine → Fun
+    𝓤) (𝓣 : Tables 𝓤 H) → Triple 𝓤 (𝓣 .C #voices·lengths-number) (Refusal 𝓤 H A at-mem run) → Triple 𝓤 (𝓣 .C #voices·refuse)
+    (Refused 𝓤 H A at-mem run) → Triple 𝓤 (𝓣 .C #voices·any-malformed) (Scan 𝓤 H A at-mem run) → Triple 𝓤 (𝓣 .C #voices·begin)
+    (Open 𝓤 H A at-mem run) → Triple 𝓤 (𝓣 .C #voices·serve-all) (Tick 𝓤 H A at-mem run) → Triple 𝓤 (𝓣 .C #voices·finish) (Done 𝓤
+    H A at-mem run)
     → Meets 𝓤 H A f.signature (WpFn 𝓤 H (𝓣 .C) (𝓣 .Λ) code.function) (f.spec 𝓤 H A at-mem run)
 tick-meets 𝓤 H A W at-mem run 𝓣 known-refusal known-refused known-scan known-open known-tick known-done =
     walk-meets 𝓤 H A f.ended stayed W (
       goes-slice 𝓤 H A W 6 0 tt (plain (λ _. R)),
       (
-        goes-none 𝓤 H A W 6 (λ _. Fixed-T.the-row) yes (λ κs x
-            f. refl),
+        goes-none 𝓤 H A W 6 (λ _. Fixed-T.the-row)
+            yes (λ κs x f. refl),
         (
           goes-slice 𝓤 H A W 6 1 tt (plain (λ _. u8)),
           (
             goes-slice 𝓤 H A W 6 2 tt (plain (λ _. u8)),
             (
-              goes-none-slice 𝓤 H A W 6 (3
-                  ∷ []) tt (plain (λ _. u8)) yes,
+              goes-none-slice 𝓤 H A W 6 (3 ∷ []) tt (plain (λ _. u8)) yes,
               (
                 goes-slice 𝓤 H A W 6 4 tt (plain (λ _. i16)),
                 (
-                  goes-slice 𝓤 H A W 6 5 tt (plain (λ _. i32)),
+                  goes-slice
+                      𝓤 H A W 6 5 tt (plain (λ _. i32)),
                   tt,
                 ),
               ),
@@ -1538,8 +1614,8 @@ tick-meets 𝓤 H A W at-mem run 𝓣 known-refusal known-refused known-scan kno
         ),
       ),
     ) (f.clauses 𝓤 H A at-mem run)
-    (WpFn 𝓤 H (𝓣 .C) (𝓣 .Λ) code.function) (WpFn-mono 𝓤 H (W .laws) 𝓣 code.function) (tick-walks 𝓤 H A W at-mem run 𝓣 known-refusal
-    known-refused known-scan known-open known-tick known-done)
+    (WpFn 𝓤 H (𝓣 .C) (𝓣 .Λ) code.function) (WpFn-mono 𝓤 H (W .laws) 𝓣 code.function) (tick-walks 𝓤 H A W at-mem run 𝓣
+    known-refusal known-refused known-scan known-open known-tick known-done)
 
 pub tick-spec : {M : Type 1} → stated.statement M
 unfolding code.routine tablesOf
@@ -1549,13 +1625,13 @@ tick-spec 𝓤 H 𝓜 𝓖 𝓡 =
     (tick-meets 𝓤 H (𝓖 .A) (givenOf 𝓤 H 𝓜 𝓖) (𝓜 .mem) (𝓡 .run) (tablesOf 𝓤 H 𝓜 (tables 𝓤 H 𝓜 𝓡 code.env))
     (cited 𝓤 H (Refusal 𝓤 H (𝓖 .A) (𝓜 .mem) (𝓡 .run)) 𝓜 𝓡 code.env #voices·lengths-number lengths-number-def.routine
     code.calls-voice-turn·refusal·lengths-number (lengths-number-thm.met 𝓤 H 𝓜 𝓖 𝓡))
-    (cited 𝓤 H (Refused 𝓤 H (𝓖 .A) (𝓜 .mem) (𝓡 .run)) 𝓜 𝓡 code.env #voices·refuse refuse-def.routine code.calls-voice-turn·refused·refuse
-    (refuse-thm.met 𝓤 H 𝓜 𝓖 𝓡))
+    (cited 𝓤 H (Refused 𝓤 H (𝓖 .A) (𝓜 .mem) (𝓡 .run)) 𝓜 𝓡 code.env #voices·refuse refuse-def.routine
+    code.calls-voice-turn·refused·refuse (refuse-thm.met 𝓤 H 𝓜 𝓖 𝓡))
     (cited 𝓤 H (Scan 𝓤 H (𝓖 .A) (𝓜 .mem) (𝓡 .run)) 𝓜 𝓡 code.env #voices·any-malformed any-malformed-def.routine
     code.calls-voices·any-malformed (any-malformed-thm.met 𝓤 H 𝓜 𝓖 𝓡))
     (cited 𝓤 H (Open 𝓤 H (𝓖 .A) (𝓜 .mem) (𝓡 .run)) 𝓜 𝓡 code.env #voices·begin begin-def.routine code.calls-voice-turn·begin·begin
     (begin-thm.met 𝓤 H 𝓜 𝓖 𝓡))
-    (cited 𝓤 H (Tick 𝓤 H (𝓖 .A) (𝓜 .mem) (𝓡 .run)) 𝓜 𝓡 code.env #voices·serve-all serve-all-def.routine code.calls-voices·serve-all
-    (serve-all-thm.met 𝓤 H 𝓜 𝓖 𝓡))
-    (cited 𝓤 H (Done 𝓤 H (𝓖 .A) (𝓜 .mem) (𝓡 .run)) 𝓜 𝓡 code.env #voices·finish finish-def.routine code.calls-voice-turn·turn·finish
-    (finish-thm.met 𝓤 H 𝓜 𝓖 𝓡)))
+    (cited 𝓤 H (Tick 𝓤 H (𝓖 .A) (𝓜 .mem) (𝓡 .run)) 𝓜 𝓡 code.env #voices·serve-all serve-all-def.routine
+    code.calls-voices·serve-all (serve-all-thm.met 𝓤 H 𝓜 𝓖 𝓡))
+    (cited 𝓤 H (Done 𝓤 H (𝓖 .A) (𝓜 .mem) (𝓡 .run)) 𝓜 𝓡 code.env #voices·finish finish-def.routine
+    code.calls-voice-turn·turn·finish (finish-thm.met 𝓤 H 𝓜 𝓖 𝓡)))
