@@ -41,5 +41,6 @@ module _ (T : SemTy) {M : Type 1} (𝓤 : URA M) (H : Heap 𝓤) (A : Atoms 𝓤
   pub cells-glue : (xs ys : List (T .rep)) (b o : ℕ)
       → ent 𝓤 (sep 𝓤 (sem 𝓤 H A (cells T xs b o)) (sem 𝓤 H A (cells T ys b (past T xs o)))) (sem 𝓤 H A (cells T (xs ++ ys) b o))
   cells-glue [] ys b o = qed W (‵ (cells T [] b o) ∷ ‵ (cells T ys b o) ∷ []) ∵ drop ! $ done !
-  cells-glue (x ∷ xs) ys b o = qed W (‵ (cells T (x ∷ xs) b o) ∷ ‵ (cells T ys b (past T xs (o + T .size))) ∷ []) ∵ fsplit ! $ move ! (1 ∷ 2 ∷ []) $
+  cells-glue (x ∷ xs) ys b o =
+      qed W (‵ (cells T (x ∷ xs) b o) ∷ ‵ (cells T ys b (past T xs (o + T .size))) ∷ []) ∵ fsplit ! $ move ! (1 ∷ 2 ∷ []) $
       use2 W (‵ (cells T (xs ++ ys) b (o + T .size))) (cells-glue xs ys b (o + T .size)) $ move ! (1 ∷ 0 ∷ []) $ fjoin ! $ done !

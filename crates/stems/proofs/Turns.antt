@@ -1,4 +1,5 @@
--- Voices of a list served in turn: what they leave for a voice that stands in the list once, its number, the list of refused voices and the
+-- Voices of a list served in turn: what they leave for a voice that stands in the list once, its number, the list of refused voices and
+-- the
 -- mixes. By induction on the list: the voices before it and after it leave what is its own. Assumes nothing.
 use mathlib.Core.Path.{_≡_, refl, sym, ap, ap₂, _∙_, subst}
 use mathlib.Core.Logic.{_≢_, _⊎_, inl, inr}
@@ -19,7 +20,8 @@ use Rattle.stems.specs.declared.Fixed.{Fixed}
 use Rattle.stems.specs.Memory.{Memory, laneLength}
 use Rattle.stems.specs.Call.{answer, serve, adds, serveAll, mixesIn, Refusal, noted, refusalsIn, numberIn, lengths, noMixes}
 use Rattle.stems.specs.Whole.{LongAs, Long, refusedOf}
-use Rattle.stems.proofs.Orders.{count, count-zero, Once, count-one, stands-first, stands-in, stands-later, stands-other, Below, Distinct, sum}
+use Rattle.stems.proofs.Orders.{count, count-zero, Once, count-one, stands-first, stands-in, stands-later, stands-other, Below}
+use Rattle.stems.proofs.Orders.{Distinct, sum}
 use Rattle.stems.proofs.Shape.{Fits}
 use Rattle.stems.proofs.Serve.{Good, given-kept, good-serve, serve-lengths, Turn, good-turn}
 use Rattle.stems.proofs.Serve.{Same, same-refl, same-answer, same-serve, other-serve}

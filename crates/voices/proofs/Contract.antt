@@ -1,4 +1,5 @@
--- The call's contract on each of its three ways: refused by its lengths, refused for a record, and served, where the loop's order leaves what
+-- The call's contract on each of its three ways: refused by its lengths, refused for a record, and served, where the loop's order leaves
+-- what
 -- every order leaves. Assumes nothing.
 use mathlib.Core.Path.{_≡_, refl, sym, ap, _∙_, subst}
 use mathlib.Core.Bool.{Bool, true, false, not, cond}
@@ -131,7 +132,8 @@ module _ (fx : Fixed) (r0 r1 w : List ℕ) (ys : List Voice) (lanes mixes : List
     goes-on good fresh long = (
       all-voices,
       refl,
-      λ j h. not-malformed-formed (laneLength (length lanes)) _ (none-each (malformed (laneLength (length lanes))) ys defaultVoice good j h),
+      λ j h. not-malformed-formed (laneLength (length lanes)) _ (none-each (malformed (laneLength (length lanes))) ys defaultVoice good j
+          h),
       subst (λ (n : ℕ). lengthsCode fx n (length r0) (length r1) (length w) (length lanes) (length fresh) ≡ 0) all-voices
           (subst (λ (n : ℕ). lengthsCode fx (length ys) (length r0) (length r1) (length w) (length lanes) n ≡ 0) (sym long) zero-is),
     )

@@ -1,4 +1,5 @@
--- What the loops over the records know after i of them: the places of the refused, the records not yet served, and the lengths. By what one
+-- What the loops over the records know after i of them: the places of the refused, the records not yet served, and the lengths. By what
+-- one
 -- turn changes. Assumes nothing.
 use mathlib.Core.Path.{_≡_, refl, sym, ap, _∙_, subst}
 use mathlib.Core.Bool.{Bool, true, false, not, _||_}
@@ -36,7 +37,11 @@ pub counted :
     (v : Voice) (i : ℕ) (t : Turn) (fx : Fixed) (region0 region1 window : List ℕ) (lanes mixes : List ℤ) → t .refused .count ≤ i
     → takenBy v i t fx region0 region1 window lanes mixes .turn .refused .count ≤ i + 1
 unfolding takenBy
-counted v i t fx region0 region1 window lanes mixes h = omega (arith, noted-one i (numberOf (answered v i t fx region0 region1 window lanes mixes)) (t .refused))
+counted v i t fx region0 region1 window lanes mixes h = omega (
+  arith,
+  noted-one i (numberOf (answered v i t fx region0 region1 window
+      lanes mixes)) (t .refused),
+)
 
 -- the record at hand is as it was lent
 pub formed-now :
@@ -75,7 +80,8 @@ any-of lanes (suc i) ys h =
     ∙ sym (some-more test ys i defaultVoice h) ∙ ap (λ (k : ℕ). some test (take k ys)) (add-one i)
 
 pub any-is : (lanes : ℕ) (ys : List Voice) → anyUpTo lanes (length ys) ys ≡ some (malformed (laneLength lanes)) ys
-any-is lanes ys = any-of lanes (length ys) ys (omega arith) ∙ ap (some (malformed (laneLength lanes))) (take-all (length ys) ys (omega arith))
+any-is lanes ys = any-of lanes (length ys) ys (omega arith) ∙ ap (some (malformed (laneLength lanes))) (take-all (length ys) ys (omega
+    arith))
 
 -- ---- the tests of the call
 

@@ -1,4 +1,5 @@
--- The state of the loop after i records is what the first i voices leave, served in turn: one turn of the loop is one voice served, and the
+-- The state of the loop after i records is what the first i voices leave, served in turn: one turn of the loop is one voice served, and
+-- the
 -- rest is by induction on i. Assumes nothing.
 use mathlib.Core.Path.{_≡_, refl, sym, ap, _∙_, subst}
 use mathlib.Core.Bool.{Bool, not}
@@ -119,7 +120,8 @@ module _ (fx : Fixed) (w : List ℕ) where
             ∙ ap (mixesAfter (answer fx second i before)) (a .mixes) ∙ sym (mixes-more fx second i (upTo i) m noMixes);
         turn =
             turn-carried i (st i)
-            ∙ ap (λ (x : Answer). record { second = st i .turn .second; refused = refusedAfter i (numberOf x) (st i .turn .refused) }) got-is
+            ∙ ap (λ (x : Answer). record { second = st i .turn .second; refused = refusedAfter i (numberOf x) (st i .turn .refused) })
+            got-is
             ∙ ap (λ (t : Turn).
             record { second = t .second; refused = refusedAfter i (numberOf (answer fx second i before)) (t .refused) }) (a .turn)
             ∙ ap (λ r. record { second = second; refused = r })

@@ -1,4 +1,8 @@
-// The call for all voices over lent records.
+// The call for all voices. `tick` is lent the records, the two regions, the window, the lanes and the mixes, for any values and lengths, and
+// is handed the layout and the window's base. It refuses as a whole with the lowest of 1 to 7, and then writes nothing. Else it chooses the
+// region to be read, sets the mixes to 0 and gives each voice its turn; a voice that is refused, by 20 or 21, keeps what is its own, adds
+// nothing and goes into the list that the call gives back. Here is only what goes over the slice of records: each record is taken out,
+// handed by value to `voice_turn` and put back. That these functions meet their contracts is written by tools/walks.
 use stems::Fixed;
 use voice::record::Voice;
 use voice_turn::begin::begin;
@@ -22,6 +26,7 @@ ghost use Rattle.voice_turn.specs.Turn.{Fitting, answerTo, takenBy, region0By, 
 ghost use Rattle.voices.specs.Inner.{LongAt, AllFormed, ticked};
 ghost use Rattle.voices.specs.Tick.{lent, left, RefusedBy};
 
+// Gives voice i its turn.
 fn serve_at(
     voices: &mut [Voice],
     i: usize,
@@ -36,13 +41,20 @@ fn serve_at(
     requires { ⌜ (i < length (now voices)) × (i < VOICES) × (turn .refused .count ≤ i)
         × WellFormed (laneLength (length (now lanes))) (getD (now voices) i defaultVoice)
         × Fitting fixed (length (now region0)) (length (now region1)) (length (now window)) (length (now lanes)) (length (now mixes)) ⌝ }
-    ensures { λ r. ⌜ (r ≡ takenBy (getD (now (voices .entry)) i defaultVoice) i turn fixed (now (region0 .entry)) (now (region1 .entry)) (now (window .entry)) (now (lanes .entry)) (now (mixes .entry)) .turn)
-        × (now (voices .exit) ≡ set (now (voices .entry)) i (takenBy (getD (now (voices .entry)) i defaultVoice) i turn fixed (now (region0 .entry)) (now (region1 .entry)) (now (window .entry)) (now (lanes .entry)) (now (mixes .entry)) .v))
-        × (now (region0 .exit) ≡ region0By (getD (now (voices .entry)) i defaultVoice) i turn fixed (now (region0 .entry)) (now (region1 .entry)) (now (window .entry)) (now (lanes .entry)) (now (mixes .entry)))
-        × (now (region1 .exit) ≡ region1By (getD (now (voices .entry)) i defaultVoice) i turn fixed (now (region0 .entry)) (now (region1 .entry)) (now (window .entry)) (now (lanes .entry)) (now (mixes .entry)))
-        × (now (lanes .exit) ≡ lanesBy (getD (now (voices .entry)) i defaultVoice) i turn fixed (now (region0 .entry)) (now (region1 .entry)) (now (window .entry)) (now (lanes .entry)) (now (mixes .entry)))
-        × (now (mixes .exit) ≡ mixesBy (getD (now (voices .entry)) i defaultVoice) i turn fixed (now (region0 .entry)) (now (region1 .entry)) (now (window .entry)) (now (lanes .entry)) (now (mixes .entry)))
-        × LongAs (laneLength (length (now (lanes .entry)))) (answerTo fixed (turn .second) i (getD (now (voices .entry)) i defaultVoice) (now (region0 .entry)) (now (region1 .entry)) (now (window .entry)) (now (lanes .entry))) ⌝ }
+    ensures { λ r. ⌜ (r ≡ takenBy (getD (now (voices .entry)) i defaultVoice) i turn fixed
+        (now (region0 .entry)) (now (region1 .entry)) (now (window .entry)) (now (lanes .entry)) (now (mixes .entry)) .turn)
+        × (now (voices .exit) ≡ set (now (voices .entry)) i (takenBy (getD (now (voices .entry)) i defaultVoice) i turn fixed
+        (now (region0 .entry)) (now (region1 .entry)) (now (window .entry)) (now (lanes .entry)) (now (mixes .entry)) .v))
+        × (now (region0 .exit) ≡ region0By (getD (now (voices .entry)) i defaultVoice) i turn fixed
+        (now (region0 .entry)) (now (region1 .entry)) (now (window .entry)) (now (lanes .entry)) (now (mixes .entry)))
+        × (now (region1 .exit) ≡ region1By (getD (now (voices .entry)) i defaultVoice) i turn fixed
+        (now (region0 .entry)) (now (region1 .entry)) (now (window .entry)) (now (lanes .entry)) (now (mixes .entry)))
+        × (now (lanes .exit) ≡ lanesBy (getD (now (voices .entry)) i defaultVoice) i turn fixed
+        (now (region0 .entry)) (now (region1 .entry)) (now (window .entry)) (now (lanes .entry)) (now (mixes .entry)))
+        × (now (mixes .exit) ≡ mixesBy (getD (now (voices .entry)) i defaultVoice) i turn fixed
+        (now (region0 .entry)) (now (region1 .entry)) (now (window .entry)) (now (lanes .entry)) (now (mixes .entry)))
+        × LongAs (laneLength (length (now (lanes .entry)))) (answerTo fixed (turn .second) i (getD (now (voices .entry)) i defaultVoice)
+        (now (region0 .entry)) (now (region1 .entry)) (now (window .entry)) (now (lanes .entry))) ⌝ }
 {
     let v = voices[i];
     let out = take_turn(v, i, turn, fixed, region0, region1, window, lanes, mixes);
@@ -50,6 +62,7 @@ fn serve_at(
     out.turn
 }
 
+// Gives each voice its turn, voice 0 first.
 fn serve_all(
     voices: &mut [Voice],
     start: Turn,
@@ -62,13 +75,21 @@ fn serve_all(
 ) -> Turn
     requires { ⌜ (length (now voices) ≡ VOICES) × (start .refused .count ≡ 0) × AllFormed (laneLength (length (now lanes))) (now voices)
         × Fitting fixed (length (now region0)) (length (now region1)) (length (now window)) (length (now lanes)) (length (now mixes)) ⌝ }
-    ensures { λ r. ⌜ (r ≡ ticked fixed (now (window .entry)) (length (now (voices .entry))) (now (voices .entry)) (now (region0 .entry)) (now (region1 .entry)) (now (lanes .entry)) (now (mixes .entry)) start .turn)
-        × (now (voices .exit) ≡ ticked fixed (now (window .entry)) (length (now (voices .entry))) (now (voices .entry)) (now (region0 .entry)) (now (region1 .entry)) (now (lanes .entry)) (now (mixes .entry)) start .voices)
-        × (now (region0 .exit) ≡ ticked fixed (now (window .entry)) (length (now (voices .entry))) (now (voices .entry)) (now (region0 .entry)) (now (region1 .entry)) (now (lanes .entry)) (now (mixes .entry)) start .region0)
-        × (now (region1 .exit) ≡ ticked fixed (now (window .entry)) (length (now (voices .entry))) (now (voices .entry)) (now (region0 .entry)) (now (region1 .entry)) (now (lanes .entry)) (now (mixes .entry)) start .region1)
-        × (now (lanes .exit) ≡ ticked fixed (now (window .entry)) (length (now (voices .entry))) (now (voices .entry)) (now (region0 .entry)) (now (region1 .entry)) (now (lanes .entry)) (now (mixes .entry)) start .lanes)
-        × (now (mixes .exit) ≡ ticked fixed (now (window .entry)) (length (now (voices .entry))) (now (voices .entry)) (now (region0 .entry)) (now (region1 .entry)) (now (lanes .entry)) (now (mixes .entry)) start .mixes)
-        × ((j : ℕ) → j < length (now (voices .entry)) → LongAt fixed (now (window .entry)) j (ticked fixed (now (window .entry)) j (now (voices .entry)) (now (region0 .entry)) (now (region1 .entry)) (now (lanes .entry)) (now (mixes .entry)) start)) ⌝ }
+    ensures { λ r. ⌜ (r ≡ ticked fixed (now (window .entry)) (length (now (voices .entry))) (now (voices .entry))
+        (now (region0 .entry)) (now (region1 .entry)) (now (lanes .entry)) (now (mixes .entry)) start .turn)
+        × (now (voices .exit) ≡ ticked fixed (now (window .entry)) (length (now (voices .entry))) (now (voices .entry))
+        (now (region0 .entry)) (now (region1 .entry)) (now (lanes .entry)) (now (mixes .entry)) start .voices)
+        × (now (region0 .exit) ≡ ticked fixed (now (window .entry)) (length (now (voices .entry))) (now (voices .entry))
+        (now (region0 .entry)) (now (region1 .entry)) (now (lanes .entry)) (now (mixes .entry)) start .region0)
+        × (now (region1 .exit) ≡ ticked fixed (now (window .entry)) (length (now (voices .entry))) (now (voices .entry))
+        (now (region0 .entry)) (now (region1 .entry)) (now (lanes .entry)) (now (mixes .entry)) start .region1)
+        × (now (lanes .exit) ≡ ticked fixed (now (window .entry)) (length (now (voices .entry))) (now (voices .entry))
+        (now (region0 .entry)) (now (region1 .entry)) (now (lanes .entry)) (now (mixes .entry)) start .lanes)
+        × (now (mixes .exit) ≡ ticked fixed (now (window .entry)) (length (now (voices .entry))) (now (voices .entry))
+        (now (region0 .entry)) (now (region1 .entry)) (now (lanes .entry)) (now (mixes .entry)) start .mixes)
+        × ((j : ℕ) → j < length (now (voices .entry)) → LongAt fixed (now (window .entry)) j
+        (ticked fixed (now (window .entry)) j (now (voices .entry))
+        (now (region0 .entry)) (now (region1 .entry)) (now (lanes .entry)) (now (mixes .entry)) start)) ⌝ }
 {
     let mut turn = start;
     let mut i = 0;
@@ -89,6 +110,7 @@ fn serve_all(
     turn
 }
 
+// Whether a record is malformed, for lanes of so many samples together.
 fn any_malformed(voices: &[Voice], lanes: usize) -> bool
     ensures { λ r. ⌜ r ≡ some (malformed (laneLength lanes)) (now (voices .entry)) ⌝ }
 {
@@ -102,6 +124,7 @@ fn any_malformed(voices: &[Voice], lanes: usize) -> bool
     bad
 }
 
+// Serves one frame of all voices. `fixed` is what every call of a run is handed alike.
 pub fn tick(
     voices: &mut [Voice],
     fixed: Fixed,
@@ -111,20 +134,20 @@ pub fn tick(
     lanes: &mut [i16],
     mixes: &mut [i32],
 ) -> Returned
-    ensures { λ r. ⌜ (r .number ≡ wholeNumber fixed
-        (lent (now (region0 .entry)) (now (region1 .entry)) (now (window .entry)) (now (voices .entry)) (now (lanes .entry)) (now (mixes .entry))))
-        × (now (voices .exit) ≡ left fixed
-        (lent (now (region0 .entry)) (now (region1 .entry)) (now (window .entry)) (now (voices .entry)) (now (lanes .entry)) (now (mixes .entry))) .memory .records)
-        × (now (region0 .exit) ≡ left fixed
-        (lent (now (region0 .entry)) (now (region1 .entry)) (now (window .entry)) (now (voices .entry)) (now (lanes .entry)) (now (mixes .entry))) .memory .region0)
-        × (now (region1 .exit) ≡ left fixed
-        (lent (now (region0 .entry)) (now (region1 .entry)) (now (window .entry)) (now (voices .entry)) (now (lanes .entry)) (now (mixes .entry))) .memory .region1)
-        × (now (lanes .exit) ≡ left fixed
-        (lent (now (region0 .entry)) (now (region1 .entry)) (now (window .entry)) (now (voices .entry)) (now (lanes .entry)) (now (mixes .entry))) .memory .lanes)
-        × (now (mixes .exit) ≡ left fixed
-        (lent (now (region0 .entry)) (now (region1 .entry)) (now (window .entry)) (now (voices .entry)) (now (lanes .entry)) (now (mixes .entry))) .mixes)
-        × RefusedBy fixed
-        (lent (now (region0 .entry)) (now (region1 .entry)) (now (window .entry)) (now (voices .entry)) (now (lanes .entry)) (now (mixes .entry))) (r .refused) ⌝ }
+    ensures { λ r. ⌜ (r .number ≡ wholeNumber fixed (lent (now (region0 .entry)) (now (region1 .entry)) (now (window .entry))
+        (now (voices .entry)) (now (lanes .entry)) (now (mixes .entry))))
+        × (now (voices .exit) ≡ left fixed (lent (now (region0 .entry)) (now (region1 .entry)) (now (window .entry))
+        (now (voices .entry)) (now (lanes .entry)) (now (mixes .entry))) .memory .records)
+        × (now (region0 .exit) ≡ left fixed (lent (now (region0 .entry)) (now (region1 .entry)) (now (window .entry))
+        (now (voices .entry)) (now (lanes .entry)) (now (mixes .entry))) .memory .region0)
+        × (now (region1 .exit) ≡ left fixed (lent (now (region0 .entry)) (now (region1 .entry)) (now (window .entry))
+        (now (voices .entry)) (now (lanes .entry)) (now (mixes .entry))) .memory .region1)
+        × (now (lanes .exit) ≡ left fixed (lent (now (region0 .entry)) (now (region1 .entry)) (now (window .entry))
+        (now (voices .entry)) (now (lanes .entry)) (now (mixes .entry))) .memory .lanes)
+        × (now (mixes .exit) ≡ left fixed (lent (now (region0 .entry)) (now (region1 .entry)) (now (window .entry))
+        (now (voices .entry)) (now (lanes .entry)) (now (mixes .entry))) .mixes)
+        × RefusedBy fixed (lent (now (region0 .entry)) (now (region1 .entry)) (now (window .entry))
+        (now (voices .entry)) (now (lanes .entry)) (now (mixes .entry))) (r .refused) ⌝ }
 {
     let number = lengths_number(
         fixed,
