@@ -110,7 +110,7 @@ filled-each (p ∷ ps) e zero h = ltb-true 0 (p .size) (and-both (ltb 0 (p .size
 filled-each (p ∷ ps) e (suc i) h = filled-each ps (and-both (ltb 0 (p .size)) (filled ps) e .1) i (le-of-suc-le-suc h)
 
 -- each rule's test says its sentence
-lengths-say : (first second : ℕ) → ((not (eqb first second) || ltb regionMost first) ≡ true) ↔ LengthsWrong first second
+pub lengths-say : (first second : ℕ) → ((not (eqb first second) || ltb regionMost first) ≡ true) ↔ LengthsWrong first second
 lengths-say first second = (λ e. wrong e (holds-or (eqb first second)), λ w. test w (holds-or (eqb first second)))
   where
     wrong :
@@ -128,7 +128,7 @@ lengths-say first second = (λ e. wrong e (holds-or (eqb first second)), λ w. t
     test (inr (inr h)) (inl t) = or-no _ (not-yes t) ∙ lt-ltb regionMost first (omega (arith, eqb-true first second t))
 
 module _ (first : ℕ) (l : Layout) where
-  ends-say : (not (inside first (placesOf l)) ≡ true) ↔ EndsPast first l
+  pub ends-say : (not (inside first (placesOf l)) ≡ true) ↔ EndsPast first l
   ends-say = (λ e. last (past-one first (placesOf l) (not-true _ e)), λ s. not-no (test s (holds-or (inside first (placesOf l)))))
     where
       last : (i : ℕ) × (i < 7) × (first < end (placeAt l i)) → EndsPast first l
@@ -140,7 +140,7 @@ module _ (first : ℕ) (l : Layout) where
       test s (inl t) = let w = inside-each first (placesOf l) t (s .0) (s .2) in absurd (omega (arith, s .3, s .4))
       test s (inr f) = f
 
-shares-say : (l : Layout) → (not (apart (placesOf l)) ≡ true) ↔ ShareByte l
+pub shares-say : (l : Layout) → (not (apart (placesOf l)) ≡ true) ↔ ShareByte l
 shares-say l = (λ e. byte (apart-one (placesOf l) (not-true _ e)), λ s. not-no (test s (holds-or (apart (placesOf l)))))
   where
     byte : Two (placesOf l) → ShareByte l

@@ -40,3 +40,8 @@ None (r ∷ rs) = (r .applies ≡ false) × None rs
 pub record Given (rs : List Rule) : Type 0 where
   pub given : (i : ℕ) → i < length rs → (lowest rs ≡ getD rs i (rule false 0) .number) ↔ First rs i
   pub nothing : (lowest rs ≡ 0) ↔ None rs
+
+-- S n says in words when number n applies. The number given is the lowest that applies, and 0 exactly if none does.
+pub record LowestGiven (S : ℕ → Type 0) (given : ℕ) : Type 0 where
+  pub none : (given ≡ 0) ↔ ((n : ℕ) → S n → ⊥)
+  pub number : (n : ℕ) → 0 < n → (given ≡ n) ↔ (S n × ((k : ℕ) → k < n → S k → ⊥))

@@ -7,5 +7,7 @@ pub mod Turns
 pub mod Blocks
 pub mod Accept
 pub mod Whole
+pub mod Listed
+pub mod Exactly
 pub mod Stems
 pub mod Exist

@@ -2,7 +2,7 @@
 -- in both, by induction on the permutation, and for the order down from 23 both are known. Assumes nothing.
 use mathlib.Core.Path.{_≡_, refl, sym, ap, ap₂, _∙_}
 use mathlib.Core.Logic.{_≢_, _⊎_, inl, inr}
-use mathlib.Core.Bool.{Bool, true, false}
+use mathlib.Core.Bool.{Bool, true, false, cond}
 use mathlib.Core.List.{List, [], _∷_, List·Permᴰ, List·Permᴰ·nil, List·Permᴰ·cons, List·Permᴰ·swap, List·Permᴰ·trans}
 use mathlib.Core.List.{Permᴰ·middle, Permᴰ·append-nil}
 use Prim.Native.Nat.{ℕ, zero, suc, _+_, _≤_, _<_}
@@ -13,22 +13,18 @@ use lib.IntN.{ℤ, pos, _+ℤ_, +ℤ-assoc, +ℤ-comm}
 use borrow.Author.Tests.{eqb-true, eq-eqb, ne-eqb, eqb-false}
 use Rattle.lists.proofs.Lowest.{holds-or}
 use Rattle.stems.specs.Call.{upTo, sumOf}
+use Rattle.stems.specs.Whole.{count}
 
 -- ---- how often v stands in a list
 
-abbrev hit : Bool → ℕ
-hit true = 1
-hit false = 0
-
-unfoldable pub count : ℕ → List ℕ → ℕ
-count v [] = 0
-count v (w ∷ ws) = hit (eqb v w) + count v ws
+abbrev pub hit : Bool → ℕ
+hit b = cond b 1 0
 
 -- the first of a list is v, or it is not
-abbrev Hits : ℕ → ℕ → Type 0
+abbrev pub Hits : ℕ → ℕ → Type 0
 Hits v w = ((w ≡ v) × (hit (eqb v w) ≡ 1)) ⊎ ((w ≢ v) × (hit (eqb v w) ≡ 0))
 
-hits : (v w : ℕ) → Hits v w
+pub hits : (v w : ℕ) → Hits v w
 hits v w = go (holds-or (eqb v w))
   where
     go : (eqb v w ≡ true) ⊎ (eqb v w ≡ false) → Hits v w
@@ -161,6 +157,7 @@ below (w ∷ ws) h = (go (decLt w 24), below ws (λ u p. count-zero u w ws (h u 
 
 pub record Order (vs : List ℕ) : Type 0 where
   pub one : (v : ℕ) → v < 24 → count v vs ≡ 1
+  pub none : (v : ℕ) → 24 ≤ v → count v vs ≡ 0
   pub distinct : Distinct vs
   pub below24 : Below vs
   pub sums : (f : ℕ → ℤ) → sum f vs ≡ sumOf 24 f
@@ -168,6 +165,7 @@ pub record Order (vs : List ℕ) : Type 0 where
 pub order : {vs : List ℕ} → List·Permᴰ vs (upTo 24) → Order vs
 order {vs} d = record {
   one = λ v h. same v ∙ count-down-lt 24 v h;
+  none = λ v h. same v ∙ count-down-ge 24 v h;
   distinct = at-most vs (λ w. go w (decLt w 24));
   below24 = below vs (λ w h. same w ∙ count-down-ge 24 w h);
   sums = λ f. perm-sum f (List·Permᴰ·trans d (up-down 24)) ∙ down-sum f 24;

@@ -27,6 +27,15 @@ pub neither : (n next : ℕ) → orElse n next ≡ 0 → (n ≡ 0) × (next ≡ 
 neither zero next e = (refl, e)
 neither (suc n) next e = absurd (suc-ne-zero n e)
 
+-- 5 does not apply
+pub voices-right : (records lanes : ℕ) → wrongVoices records lanes ≡ false
+    → (records ≡ 24) × (lanes ≡ 24 * laneLength lanes) × (laneLength lanes ≤ 65536)
+voices-right records lanes e =
+    let L = laneLength lanes in
+    let counts = or-neither (not (eqb records 24)) (not (eqb lanes (24 * L)) || ltb 65536 L) e in
+    let more = or-neither (not (eqb lanes (24 * L))) (ltb 65536 L) (counts .1) in
+    (eqb-true records 24 (not-false _ (counts .0)), eqb-true lanes (24 * L) (not-false _ (more .0)), ltb-false 65536 L (more .1))
+
 -- what that says of the lengths
 pub record Fits (fx : Fixed) (s : Lengths) : Type 0 where
   pub layout : Sound (s .region0) (s .region1) (fx .layout)
@@ -39,19 +48,17 @@ unfolding lengthsNumber
 fits fx s mixes e =
     let l = layoutNumber (s .region0) (s .region1) (fx .layout) in
     let w = windowNumber (fx .base) (s .window) in
-    let L = laneLength (s .lanes) in
     let last : ℕ = cond (not (eqb mixes 1920)) 6 0 in
     let rest : ℕ = cond (wrongVoices (s .records) (s .lanes)) 5 last in
     let one = neither l (orElse w rest) e in
     let five = passed (wrongVoices (s .records) (s .lanes)) 4 last (neither w rest (one .1) .1) in
     let six = passed (not (eqb mixes 1920)) 5 0 (five .1) in
-    let counts = or-neither (not (eqb (s .records) 24)) (not (eqb (s .lanes) (24 * L)) || ltb 65536 L) (five .0) in
-    let lanes = or-neither (not (eqb (s .lanes) (24 * L))) (ltb 65536 L) (counts .1) in (
+    let right = voices-right (s .records) (s .lanes) (five .0) in (
       record {
         layout = accepted (s .region0) (s .region1) (fx .layout) (one .0);
-        records = eqb-true (s .records) 24 (not-false _ (counts .0));
-        lanes = eqb-true (s .lanes) (24 * L) (not-false _ (lanes .0));
-        short = ltb-false 65536 L (lanes .1);
+        records = right .0;
+        lanes = right .1;
+        short = right .2;
       },
       eqb-true mixes 1920 (not-false _ (six .0)),
     )

@@ -15,9 +15,10 @@ use Rattle.stems.specs.declared.Fixed.{Fixed}
 use Rattle.stems.specs.Memory.{Memory, Lent, Typed, itsConfiguration, itsStatus, Alike}
 use Rattle.stems.specs.Call.{secondRead, answer, serve, adds, sumOf, serveAll, numberIn, wholeNumber, Outcome, called}
 use Rattle.stems.specs.Call.{AllServed, OneServed}
+use Rattle.stems.specs.Whole.{count}
 use Rattle.stems.specs.Stems.{Frame, still, TypedFrame, before, lent, Run, frameGives, frameLeaves, story, scene, gives}
 use Rattle.stems.specs.Stems.{mixValue, Holds, WholeAndStems}
-use Rattle.stems.proofs.Orders.{count, count-alone, Below, Distinct, sum, Order, order, sums-same}
+use Rattle.stems.proofs.Orders.{count-alone, Below, Distinct, sum, Order, order, sums-same}
 use Rattle.stems.proofs.Serve.{Good, Same, same-refl, same-choice, same-answer}
 use Rattle.stems.proofs.Turns.{good-all, Turns, good-turns, once-same, once-number, adds-wrapped, sums-length, sums-at}
 use Rattle.stems.proofs.Accept.{accepted, accepted-one, good, good-recorded, same-recorded}

@@ -1,10 +1,11 @@
 -- What a call for all voices leaves, whatever the order in which it takes them: each voice's answer in memory as the call finds it, put
 -- where that voice's own lies. Assumes nothing: these are definitions and statements; `every-order` and `whole-served` of proofs/Whole.antt
--- prove the two.
+-- and `listed-once` of proofs/Listed.antt prove the three.
 use mathlib.Core.Path.{_≡_}
-use Prim.Native.Nat.{ℕ, zero, suc, _<_}
-use mathlib.Core.Bool.{Bool, true, false, not}
-use mathlib.Core.List.{List, [], _∷_, List·Permᴰ}
+use Prim.Native.Nat.{ℕ, zero, suc, _+_, _<_}
+use mathlib.Core.Bool.{Bool, true, false, not, _&&_, cond}
+use mathlib.Core.List.{List, [], _∷_, map, List·Permᴰ}
+use lib.Dec.{eqb, ltb}
 use lib.IntN.{ℤ}
 use lib.ListN.{length}
 use Rattle.lists.specs.Joined.{joined}
@@ -76,6 +77,22 @@ pub record Listed (fx : Fixed) (x : Lent) (rs : List Refusal) : Type 0 where
   pub order : List ℕ
   pub each-once : List·Permᴰ order allVoices
   pub is : rs ≡ refusals (wholeNumber fx x) fx x order
+
+-- how often n stands in a list
+unfoldable pub count : ℕ → List ℕ → ℕ
+count n [] = 0
+count n (m ∷ ms) = cond (eqb n m) 1 0 + count n ms
+
+-- voice v is refused in a call with this number: with 0, if it is one of the 24 voices and its own number is not 0; with another, none is
+unfoldable pub isRefused : ℕ → Fixed → Lent → ℕ → Bool
+isRefused zero fx x v = ltb v VOICES && not (eqb (numberOf (gets fx (x .memory) v)) 0)
+isRefused (suc n) fx x v = false
+
+-- "refused voices come as a list of voice and number, each once": a voice that is refused stands in the list once, and no other does.
+abbrev pub ListedOnce : Type 0
+ListedOnce =
+    (fx : Fixed) (x : Lent) (rs : List Refusal) → Listed fx x rs
+    → (v : ℕ) → count v (map (λ r. r .voice) rs) ≡ cond (isRefused (wholeNumber fx x) fx x v) 1 0
 
 -- Every order of serving leaves the same memory and mixes.
 abbrev pub EveryOrder : Type 0

@@ -1,6 +1,7 @@
 //! inputs for the oracle and the port, the same from the same seed.
 
 mod adpcm;
+pub mod calling;
 pub mod configuring;
 pub mod floats;
 pub mod layout;

@@ -86,13 +86,23 @@ impl Play {
             _ => random.below(end as usize) as u32 & random.pick(&[!3, u32::MAX]),
         };
         let window = random.bytes(length);
+        Play::over(random, base, window, lane)
+    }
+
+    /// one over this window.
+    fn over(random: &mut Random, base: u32, window: Vec<u8>, lane: usize) -> Play {
         let lane: Vec<i16> = (0..lane).map(|_| random.word() as i16).collect();
-        let voice = random_voice(random, &Place { base, length, lane: lane.len() as u32 }, &lane);
+        let voice = random_voice(random, &Place { base, length: window.len(), lane: lane.len() as u32 }, &lane);
         let mut play = Play::of(&voice, base, window, lane);
         if random.below(4) == 0 {
             litter(random, &mut play.record);
         }
         play
+    }
+
+    /// another one over the same window, with a lane as long.
+    pub fn beside(&self, random: &mut Random) -> Play {
+        Play::over(random, self.base, self.window.clone(), self.lane.len())
     }
 
     pub fn place(&self) -> Place {

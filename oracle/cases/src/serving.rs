@@ -119,6 +119,7 @@ pub struct Stage {
     pub index: usize,
     pub player: ProbePlayer,
     pub memory: Memory,
+    pub(crate) layout: Layout,
     voices: Voices,
 }
 
@@ -135,7 +136,8 @@ pub struct Framed {
 
 impl Stage {
     fn new(index: usize, player: ProbePlayer, phys: Window, regions: [Vec<u8>; 2]) -> Stage {
-        let mut stage = Stage { index, player, memory: Memory { regions, phys }, voices: Voices::default() };
+        let memory = Memory { regions, phys };
+        let mut stage = Stage { index, player, memory, layout: LAYOUT, voices: Voices::default() };
         for other in (0..VOICES).filter(|other| *other != index) {
             for region in &mut stage.memory.regions {
                 region[part(LAYOUT.configurations, CONFIGURATION, other)][..4].fill(0);
@@ -145,35 +147,38 @@ impl Stage {
     }
 
     pub fn configuration(&mut self, region: usize) -> &mut [u8] {
-        &mut self.memory.regions[region][part(LAYOUT.configurations, CONFIGURATION, self.index)]
+        let at = part(self.layout.configurations, CONFIGURATION, self.index);
+        &mut self.memory.regions[region][at]
     }
 
     pub fn coefficients(&mut self, region: usize) -> &mut [u8] {
-        &mut self.memory.regions[region][part(LAYOUT.coefficients, COEFFICIENTS, self.index)]
+        let at = part(self.layout.coefficients, COEFFICIENTS, self.index);
+        &mut self.memory.regions[region][at]
     }
 
     pub fn status(&mut self, region: usize) -> &mut [u8] {
-        &mut self.memory.regions[region][part(LAYOUT.statuses, STATUS, self.index)]
+        let at = part(self.layout.statuses, STATUS, self.index);
+        &mut self.memory.regions[region][at]
     }
 
     /// writes the frame counters.
     pub fn choose(&mut self, counters: [u16; 2]) {
-        self.memory.write16(LAYOUT.frame_counter, counters[0]);
-        self.memory.write16(LAYOUT.frame_counter + REGION_STRIDE, counters[1]);
+        self.memory.write16(self.layout.frame_counter, counters[0]);
+        self.memory.write16(self.layout.frame_counter + REGION_STRIDE, counters[1]);
     }
 
     /// the region that is read.
     pub fn read(&mut self) -> usize {
-        current_region(&mut self.memory, LAYOUT) as usize
+        current_region(&mut self.memory, self.layout) as usize
     }
 
     /// addresses of configuration, coefficients and status, region 0 read.
     pub fn addresses(&self) -> [u32; 3] {
         let at = |from: u32, size: usize| from + (self.index * size) as u32;
         [
-            at(LAYOUT.configurations, CONFIGURATION),
-            at(LAYOUT.coefficients, COEFFICIENTS),
-            REGION_STRIDE + at(LAYOUT.statuses, STATUS),
+            at(self.layout.configurations, CONFIGURATION),
+            at(self.layout.coefficients, COEFFICIENTS),
+            REGION_STRIDE + at(self.layout.statuses, STATUS),
         ]
     }
 
@@ -186,7 +191,7 @@ impl Stage {
         if number != 0 {
             let (configuration, status) = (self.configuration(read).to_vec(), self.status(1 - read).to_vec());
             self.configuration(read)[..4].fill(0);
-            let parts = flat(self.voices.tick(&mut self.memory, LAYOUT));
+            let parts = flat(self.voices.tick(&mut self.memory, self.layout));
             assert!(parts.iter().all(|value| *value == 0), "a voice as it begins is heard");
             self.configuration(read).copy_from_slice(&configuration);
             self.status(1 - read).copy_from_slice(&status);
@@ -197,7 +202,7 @@ impl Stage {
         let followed = settled.voice().enabled.then(|| settled.follow(&mut self.memory));
         followed.iter().for_each(|followed| decode_into(followed, &mut left.lane));
         self.voices.probe_swap(self.index, &mut self.player);
-        let parts = flat(self.voices.tick(&mut self.memory, LAYOUT));
+        let parts = flat(self.voices.tick(&mut self.memory, self.layout));
         self.voices.probe_swap(self.index, &mut self.player);
         let after = self.player.voice();
         assert_eq!(left.lane[..after.decoded.len()], after.decoded);
@@ -206,6 +211,16 @@ impl Stage {
         left.status.copy_from_slice(self.status(1 - read));
         left.mixes.iter_mut().zip(&parts).for_each(|(value, part)| *value = value.wrapping_add(*part));
         Framed { given, settled: settled.voice(), after, followed, parts, left }
+    }
+
+    /// what the voice's frame decodes goes into its lane. gives what it is
+    /// to do.
+    pub(crate) fn decodes(&mut self, lane: &mut [i16]) -> Option<ProbeFollowed> {
+        let read = self.read();
+        let settled = self.settled(read);
+        let followed = settled.voice().enabled.then(|| settled.follow(&mut self.memory));
+        followed.iter().for_each(|followed| decode_into(followed, lane));
+        followed
     }
 
     /// a copy of the voice after its configuration.
@@ -220,12 +235,12 @@ impl Stage {
     }
 }
 
-fn part(from: u32, size: usize, index: usize) -> Range<usize> {
+pub(crate) fn part(from: u32, size: usize, index: usize) -> Range<usize> {
     let at = from as usize + size * index;
     at..at + size
 }
 
-fn flat(mixes: [QuadFrame; 3]) -> Vec<i32> {
+pub(crate) fn flat(mixes: [QuadFrame; 3]) -> Vec<i32> {
     mixes.as_flattened().as_flattened().to_vec()
 }
 
@@ -236,8 +251,8 @@ pub struct Run {
     pub stage: Stage,
     random: Random,
     place: Place,
-    record: Vec<u8>,
-    lane: Vec<i16>,
+    pub(crate) record: Vec<u8>,
+    pub(crate) lane: Vec<i16>,
     /// the number of the frame before, and the region that it read.
     pub number: u8,
     pub read: usize,
@@ -249,9 +264,7 @@ impl Run {
     pub fn new(mut random: Random, mut play: Play) -> Run {
         canonical(&mut play.record);
         if random.below(2) == 0 {
-            for at in (96..144).step_by(4) {
-                put(&mut play.record, at, heard(&mut random).to_bits().to_le_bytes());
-            }
+            gain(&mut random, &mut play.record);
         }
         let (player, memory) = play.oracle();
         let regions = [0, 1].map(|_| random.bytes(REGION));
@@ -263,6 +276,19 @@ impl Run {
         let (place, read) = (play.place(), stage.read());
         let Play { lane, record, .. } = play;
         Run { stage, random, place, record, lane, number: 0, read }
+    }
+
+    /// a voice among others, in memory that is theirs too.
+    pub(crate) fn among(mut random: Random, mut play: Play, index: usize, layout: Layout) -> Run {
+        canonical(&mut play.record);
+        if random.below(2) == 0 {
+            gain(&mut random, &mut play.record);
+        }
+        let (player, _) = play.oracle();
+        let stage = Stage { index, player, memory: Memory::default(), layout, voices: Voices::default() };
+        let place = play.place();
+        let Play { lane, record, .. } = play;
+        Run { stage, random, place, record, lane, number: 0, read: 0 }
     }
 
     /// how many frames it is to have.
@@ -299,8 +325,13 @@ impl Run {
     /// what happens before a frame: a title writes, the window is rewritten,
     /// the voice changed.
     pub fn before(&mut self) {
+        count_on(&mut self.random, &mut self.stage, self.read);
+        self.prepare();
+    }
+
+    /// the same with the frame counters as they are.
+    pub(crate) fn prepare(&mut self) {
         let Run { random, place, stage, .. } = self;
-        count_on(random, stage, self.read);
         let mut voice = stage.player.voice();
         let mut changed = false;
         if random.below(4) == 0 {
@@ -414,6 +445,13 @@ fn awaken(random: &mut Random, place: &Place, stage: &mut Stage, region: usize) 
     bytes[0xA0] = 1;
     set(bytes, flag::ENABLE);
     queue(random, place, rate, bytes);
+}
+
+/// gives a record gains such as are heard.
+fn gain(random: &mut Random, record: &mut [u8]) {
+    for at in (96..144).step_by(4) {
+        put(record, at, heard(random).to_bits().to_le_bytes());
+    }
 }
 
 /// a gain such as is heard, also below 0.
@@ -539,8 +577,8 @@ fn field(random: &mut Random, place: &Place, rate: f64, bytes: &mut [u8]) {
 
 /// the frame counters after a frame that read this region: mostly the other
 /// one is ahead, else all stays, or any are written.
-fn count_on(random: &mut Random, stage: &mut Stage, read: usize) {
-    let mut counters = [0, REGION_STRIDE].map(|by| stage.memory.read16(LAYOUT.frame_counter + by));
+pub(crate) fn count_on(random: &mut Random, stage: &mut Stage, read: usize) {
+    let mut counters = [0, REGION_STRIDE].map(|by| stage.memory.read16(stage.layout.frame_counter + by));
     match random.below(8) {
         0 | 1 => {}
         2 => counters = [random.pick(&COUNTERS), random.pick(&COUNTERS)],

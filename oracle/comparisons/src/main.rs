@@ -4,6 +4,7 @@
 //!   compare decode                      decodes recorded inputs with the port
 //!   compare measure WHAT source|port    runs WHAT on a fixed input, to be timed
 
+mod calls;
 mod casts;
 mod config;
 mod decode;
@@ -33,7 +34,7 @@ use cases::Random;
 type Comparison = fn(&mut Random, usize) -> Result<u64, String>;
 
 /// each with how many random inputs are few.
-const COMPARISONS: [(&str, Comparison, usize); 12] = [
+const COMPARISONS: [(&str, Comparison, usize); 13] = [
     ("region", region::compare, 100_000),
     ("dsp32", dsp32::compare, 100_000),
     ("window", window::compare, 100_000),
@@ -46,6 +47,7 @@ const COMPARISONS: [(&str, Comparison, usize); 12] = [
     ("config", config::compare, 20_000),
     ("play", play::compare, 2_000),
     ("voice", voice::compare, 2_000),
+    ("calls", calls::compare, 100),
 ];
 
 /// the oracle's answer and the port's are the same, or the input is told.

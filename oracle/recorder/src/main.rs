@@ -1,10 +1,11 @@
 //! writes what the oracle answers to fixed inputs, for programs that replay
 //! it without Rust: `record REPOSITORY` writes stdin and stdout of the crates
-//! replay and run_voice. every number is little-endian.
+//! replay, run_voice and run_calls. every number is little-endian.
 //! document 01's cases by hand are among the inputs, and an answer that is
 //! not document 01's stops the recording.
 
 mod adpcm;
+mod calls;
 mod listing;
 mod memory;
 mod mixer;
@@ -64,5 +65,6 @@ fn main() -> io::Result<()> {
     mixer::mixer(&mut Random::new(4), &mut replay);
     listing::listing(&mut Random::new(7), &mut replay);
     replay.write(&crates.join("replay"))?;
-    voices::voices().write(&crates.join("run_voice"))
+    voices::voices().write(&crates.join("run_voice"))?;
+    calls::calls().write(&crates.join("run_calls"))
 }

@@ -1,0 +1,63 @@
+-- `call_jobs::voice_calls::repeat` is safe and ends: the calls that are left fall. Assumes nothing.
+use mathlib.Core.Path.{_≡_}
+use lib.ListN.{length}
+use borrow.Author.Needs.{needs}
+use Rattle.call_jobs.proofs.voice_calls.repeat.Statement.{statement}
+use Rattle.call_jobs.proofs.voice_calls.repeat.Tie as tie
+
+abbrev Inv-loop : tie.InvT-loop
+Inv-loop times fixed count first₀ second₀ window lanes₀ mixes₀ framed₀ left₀ first second lanes mixes framed left = (length first ≡ length first₀) × (length second ≡ length second₀) × (length lanes ≡ length lanes₀) × (length mixes ≡ length mixes₀)
+
+abbrev μ-loop : tie.MeasureT-loop
+μ-loop times fixed count first₀ second₀ window lanes₀ mixes₀ framed₀ left₀ first second lanes mixes framed left = left
+
+frame-requires : tie.Need-frame-requires Inv-loop μ-loop
+frame-requires c κs = search needs
+
+loop-holds : tie.Need-loop-holds Inv-loop μ-loop
+loop-holds c = search needs
+
+frame-requires-2 : tie.Need-frame-requires-2 Inv-loop μ-loop
+frame-requires-2 c κs = search needs
+
+sub-left : tie.Need-sub-left Inv-loop μ-loop
+sub-left c = search needs
+
+loop-less : tie.Need-loop-less Inv-loop μ-loop
+loop-less c = search needs
+
+loop-again : tie.Need-loop-again Inv-loop μ-loop
+loop-again c = search needs
+
+same-length : tie.Need-same-length Inv-loop μ-loop
+same-length c = search needs
+
+same-length-2 : tie.Need-same-length-2 Inv-loop μ-loop
+same-length-2 c = search needs
+
+same-length-3 : tie.Need-same-length-3 Inv-loop μ-loop
+same-length-3 c = search needs
+
+same-length-4 : tie.Need-same-length-4 Inv-loop μ-loop
+same-length-4 c = search needs
+
+returns : tie.Need-returns Inv-loop μ-loop
+returns c = search needs
+
+pub repeat-spec : {M : Type 1} → statement M
+repeat-spec =
+    tie.close
+    (tie.spec
+    Inv-loop
+    μ-loop
+    frame-requires
+    loop-holds
+    frame-requires-2
+    sub-left
+    loop-less
+    loop-again
+    same-length
+    same-length-2
+    same-length-3
+    same-length-4
+    returns)

@@ -1,0 +1,45 @@
+-- `run_calls::main` is safe and ends: the turns that are left fall. Assumes nothing.
+use borrow.Author.Needs.{needs}
+use Rattle.run_calls.proofs.main.Statement.{statement}
+use Rattle.run_calls.proofs.main.Tie as tie
+
+abbrev Inv-loop : tie.InvT-loop
+Inv-loop records₀ first₀ second₀ window₀ lanes₀ mixes₀ bytes₀ turns₀ records first second window lanes mixes bytes turns = Unit {0}
+
+abbrev μ-loop : tie.MeasureT-loop
+μ-loop records₀ first₀ second₀ window₀ lanes₀ mixes₀ bytes₀ turns₀ records first second window lanes mixes bytes turns = turns
+
+loop-holds : tie.Need-loop-holds Inv-loop μ-loop
+loop-holds c = search needs
+
+answer-requires : tie.Need-answer-requires Inv-loop μ-loop
+answer-requires c κs = search needs
+
+sub-turns : tie.Need-sub-turns Inv-loop μ-loop
+sub-turns c = search needs
+
+loop-less : tie.Need-loop-less Inv-loop μ-loop
+loop-less c = search needs
+
+loop-again : tie.Need-loop-again Inv-loop μ-loop
+loop-again c = search needs
+
+returns : tie.Need-returns Inv-loop μ-loop
+returns c = search needs
+
+returns-2 : tie.Need-returns-2 Inv-loop μ-loop
+returns-2 c = search needs
+
+pub main-spec : {M : Type 1} → statement M
+main-spec =
+    tie.close
+    (tie.spec
+    Inv-loop
+    μ-loop
+    loop-holds
+    answer-requires
+    sub-turns
+    loop-less
+    loop-again
+    returns
+    returns-2)
