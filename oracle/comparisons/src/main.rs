@@ -4,6 +4,7 @@
 //!   compare decode                      decodes recorded inputs with the port
 //!   compare measure WHAT source|port    runs WHAT on a fixed input, to be timed
 
+mod busy;
 mod calls;
 mod casts;
 mod config;

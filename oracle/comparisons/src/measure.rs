@@ -13,7 +13,7 @@ use zakuro_core::services::dsp_voices::{
     probe_decode,
 };
 
-use crate::port;
+use crate::{busy, port};
 
 /// prints how many samples were decoded or frames mixed, played or served,
 /// and how many nanoseconds it took. the side `record` is what the port's
@@ -23,6 +23,10 @@ pub fn run(what: &str, side: &str) -> Result<(), String> {
     if let Some((_, play)) = plays().into_iter().find(|(name, _)| *name == what) {
         let (many, time) = play_frames(&play, side)?;
         println!("{many} {}", time.as_nanos());
+        return Ok(());
+    }
+    let [(_, play), ..] = plays();
+    if busy::run(what, side, &play, &filters())? {
         return Ok(());
     }
     if let Some((_, serve)) = voices().into_iter().find(|(name, _)| *name == what) {
