@@ -11,64 +11,70 @@ homes = {
     'begin': ('voice_turn', 'begin'),
 }
 muts = ('region0', 'region1', 'lanes', 'mixes')
-cfg = dict(
-    element_at=64,                       # where the record lies in `Taken`
-    big=True,                            # an element has 1024 bytes or more
-    homes=homes,
-    crate='voices', specs='Inner', elem='Voice', served='Taken', zero='defaultVoice', state='State',
-    serve='take_turn', serve_at='serve_at', tick='serve_all',
-    names='State, LongAt, AllFormed, serve-one, ticked',
-    uses=['use Rattle.stems.specs.Memory.{VOICES, laneLength}', 'use Rattle.voice.specs.Blank.{defaultVoice}', 'use Rattle.voice.specs.Malformed.{WellFormed}',
-          'use Rattle.stems.specs.Whole.{LongAs}', 'use Rattle.voice_turn.specs.Turn.{Fitting, answerTo, takenBy, region0By, region1By, lanesBy, mixesBy}', 'use Rattle.voices.proofs.Steps.{counted, formed-now, fitting-now, others-stay, upto-next}'],
-    extras=[('turn', 'val', 'Turn'), ('fixed', 'val', 'Fixed'), ('region0', 'mut', 'u8'), ('region1', 'mut', 'u8'), ('window', 'shr', 'u8'), ('lanes', 'mut', 'i16'), ('mixes', 'mut', 'i32')],
-    carried='turn', carried_from='start',
-    out='takenBy', last={x: x + 'By' for x in muts},
-    serve_at_requires='({n} < length {ys}) × ({n} < VOICES) × ({turn} .refused .count ≤ {n}) × WellFormed (laneLength (length {lanes})) (getD {ys} {n} defaultVoice) × ' + fitting,
-    within='ok .0',
-    serve_requires_proof='ok .1, ok .2, ok .3, ok .4',
-    serve_ensures=[('result', '{r} ≡ {out}')] + [(x, '{%s_last} ≡ %sBy ' % (x, x) + args) for x in muts] + [('long', long)],
-    serve_at_extra_types=[long],
-    serve_at_extra=['e-long'],
-    tick_requires='(length {ys} ≡ VOICES) × ({start} .refused .count ≡ 0) × AllFormed (laneLength (length {lanes})) {ys} × ' + fitting,
-    st='ticked {fixed} {window} {i} {ys} {region0} {region1} {lanes} {mixes} {start}',
-    serve_one='serve-one {fixed} {window}',
-    serve_at_requires_proof='{in_voices}, subst (λ (m : ℕ). i .0 < m) (ok .0) within, {inv0}, formed-now ys {voices} ls-lanes (st (i .0) .lanes) (i .0) (i .5) ({inv1} (i .0) (le-refl (i .0))) within (ok .2), fitting-now fixed (length ls-region0) (length (st (i .0) .region0)) (length ls-region1) (length (st (i .0) .region1)) (length (window .now)) (length ls-lanes) (length (st (i .0) .lanes)) (length ls-mixes) (length (st (i .0) .mixes)) (i .3) (i .4) (i .5) (i .6) (ok .3)',
-    invariants=[
-        dict(type='st {i} .turn .refused .count ≤ {i}', init='le-of-eq (ok .1)', step='subst (λ (z : State). z .turn .refused .count ≤ i .0 + 1) {after} (counted {sargs} ({inv}))'),
-        dict(type='(j : ℕ) → {i} ≤ j → getD (st {i} .voices) j defaultVoice ≡ getD ys j defaultVoice', init='λ j h. refl', step='subst (λ (z : State). (j : ℕ) → i .0 + 1 ≤ j → getD (z .voices) j defaultVoice ≡ getD ys j defaultVoice) {after} (others-stay ys {voices} (i .0) ({out} .v) ({inv}))'),
-        dict(type='(j : ℕ) → j < {i} → LongAt fixed (window .now) j (st j)', init='λ j h. absurd (not-suc-le-zero h)', step='upto-next (λ (j : ℕ). LongAt fixed (window .now) j (st j)) (i .0) ({inv}) ({extra})'),
-    ],
-    tick_extra=['subst (λ (m : ℕ). (j : ℕ) → j < m → LongAt fixed (window .now) j (st j)) e ({inv2})'],
-)
+cfg = dict(element_at=64,  # where the record lies in `Taken`
+    big=True,  # an element has 1024 bytes or more
+    homes=homes, crate='voices', specs='Inner', elem='Voice', served='Taken', zero='defaultVoice', state='State', serve='take_turn',
+    serve_at='serve_at', tick='serve_all', names='State, LongAt, AllFormed, serve-one, ticked', uses=[
+        'use Rattle.stems.specs.Memory.{VOICES, laneLength}', 'use Rattle.voice.specs.Blank.{defaultVoice}',
+        'use Rattle.voice.specs.Malformed.{WellFormed}', 'use Rattle.stems.specs.Whole.{LongAs}',
+        'use Rattle.voice_turn.specs.Turn.{Fitting, answerTo, takenBy, region0By, region1By, lanesBy, mixesBy}',
+        'use Rattle.voices.proofs.Steps.{counted, formed-now, fitting-now, others-stay, upto-next}'], extras=[('turn', 'val',
+            'Turn'), ('fixed', 'val', 'Fixed'), ('region0', 'mut', 'u8'), ('region1', 'mut', 'u8'), ('window', 'shr', 'u8'), ('lanes',
+            'mut', 'i16'), ('mixes', 'mut', 'i32')], carried='turn', carried_from='start', out='takenBy', last={x: x + 'By' for x in muts},
+    serve_at_requires=
+    '({n} < length {ys}) × ({n} < VOICES) × ({turn} .refused .count ≤ {n}) × WellFormed (laneLength (length {lanes})) (getD {ys} {n} '
+    'defaultVoice) × ' + fitting, within='ok .0', serve_requires_proof='ok .1, ok .2, ok .3, ok .4', serve_ensures=[('result',
+            '{r} ≡ {out}')] + [(x, '{%s_last} ≡ %sBy ' % (x, x) + args) for x in muts] + [('long', long)], serve_at_extra_types=[long],
+    serve_at_extra=['e-long'], tick_requires=
+    '(length {ys} ≡ VOICES) × ({start} .refused .count ≡ 0) × AllFormed (laneLength (length {lanes})) {ys} × ' + fitting, st=
+    'ticked {fixed} {window} {i} {ys} {region0} {region1} {lanes} {mixes} {start}', serve_one='serve-one {fixed} {window}',
+    serve_at_requires_proof=
+    '{in_voices}, subst (λ (m : ℕ). i .0 < m) (ok .0) within, {inv0}, formed-now ys {voices} ls-lanes (st (i .0) .lanes) (i .0) (i .5) '
+    '({inv1} (i .0) (le-refl (i .0))) within (ok .2), fitting-now fixed (length ls-region0) (length (st (i .0) .region0)) (length '
+    'ls-region1) (length (st (i .0) .region1)) (length (window .now)) (length ls-lanes) (length (st (i .0) .lanes)) (length ls-mixes) '
+    '(length (st (i .0) .mixes)) (i .3) (i .4) (i .5) (i .6) (ok .3)', invariants=[dict(type='st {i} .turn .refused .count ≤ {i}', init=
+            'le-of-eq (ok .1)', step='subst (λ (z : State). z .turn .refused .count ≤ i .0 + 1) {after} (counted {sargs} ({inv}))'), dict(
+            type='(j : ℕ) → {i} ≤ j → getD (st {i} .voices) j defaultVoice ≡ getD ys j defaultVoice', init='λ j h. refl', step=
+            'subst (λ (z : State). (j : ℕ) → i .0 + 1 ≤ j → getD (z .voices) j defaultVoice ≡ getD ys j defaultVoice) {after} '
+            '(others-stay ys {voices} (i .0) ({out} .v) ({inv}))'), dict(type='(j : ℕ) → j < {i} → LongAt fixed (window .now) j (st j)',
+            init='λ j h. absurd (not-suc-le-zero h)', step=
+            'upto-next (λ (j : ℕ). LongAt fixed (window .now) j (st j)) (i .0) ({inv}) ({extra})'),], tick_extra=[
+        'subst (λ (m : ℕ). (j : ℕ) → j < m → LongAt fixed (window .now) j (st j)) e ({inv2})'],)
 # the test of the records for 7
-scans = [dict(fn='any_malformed', callee='worse', params=[('lanes', 'num', 'usize')], specs='Inner', names='anyUpTo', uses=['use mathlib.Core.Bool.{_||_}', 'use Rattle.stems.specs.Memory.{laneLength}', 'use Rattle.voice.specs.Blank.{defaultVoice}', 'use Rattle.voice.specs.Malformed.{malformed}', 'use Rattle.voices.proofs.Steps.{any-is}'], said='ap st e ∙ any-is lanes ys', st='anyUpTo {lanes} {i} {ys}', out='({acc} || malformed (laneLength {lanes}) {d})')]
+scans = [dict(fn='any_malformed', callee='worse', params=[('lanes', 'num', 'usize')], specs='Inner', names='anyUpTo', uses=[
+            'use mathlib.Core.Bool.{_||_}', 'use Rattle.stems.specs.Memory.{laneLength}', 'use Rattle.voice.specs.Blank.{defaultVoice}',
+            'use Rattle.voice.specs.Malformed.{malformed}', 'use Rattle.voices.proofs.Steps.{any-is}'], said=
+        'ap st e ∙ any-is lanes ys', st='anyUpTo {lanes} {i} {ys}', out='({acc} || malformed (laneLength {lanes}) {d})')]
 # the call with no `requires`
 lent = '(lent {region0} {region1} {window} {ys} {lanes} {mixes})'
 at = 'fixed ls-region0 ls-region1 (window .now) ys ls-lanes ls-mixes'
-guard = dict(
-    fn='tick', ret='Returned', code='u8', refusal='lengths_number', refused='refuse', any='any_malformed', open='begin', done='finish',
-    uses=['use Rattle.lists.specs.Some.{some as some-of}', 'use Rattle.stems.specs.Call.{noMixes}', 'use Rattle.voice.specs.Malformed.{malformed}', 'use Rattle.voice_turn.specs.Refused.{listed, returned}',
-          'use Rattle.voice_turn.specs.Turn.{beginning}', 'use Rattle.voices.specs.Inner.{lengthsCode}', 'use Rattle.voices.proofs.Contract.{Ensured, begins, goes-on, refused-call, malformed-call, served-call}',
-          'use Rattle.voices.proofs.Steps.{is-true, is-false, no-refusal}'],
-    refusal_vals=['fixed'], refusal_spec='lengthsCode fixed {lens}', any_spec='some-of (malformed (laneLength (length {lanes}))) {ys}', any_len='lanes', any_code=7,
-    open_vals=['fixed'], open_shr=['region0', 'region1'], open_mut='mixes', open_spec='beginning {fixed} {region0} {region1}', open_left='noMixes',
-    open_requires_proof=f'begins {at} zero-is',
-    refused_spec='returned {} (listed [])', done_spec='returned 0 ({} .refused)',
-    tick_requires_proof=f'goes-on {at} zero-is good fresh fresh-long',
-    tick_extra_types=['(j : ℕ) → j < n → LongAt fixed (window .now) j (ticked fixed (window .now) j ys ls-region0 ls-region1 ls-lanes fresh begun)'],
-    is_true='is-true', is_false='is-false', no_refusal='no-refusal',
-    clause=f'Ensured {at} r zs-vs zs-region0 zs-region1 zs-lanes zs-mixes',
-    refused_proof=f'refused-call {at} {{r}} {{k}} {{k_is}} {{held}} {{e_r}}',
-    malformed_proof=f'malformed-call {at} {{r}} zero-is ({{bad}}) {{e_r}}',
-    served_proof=f'served-call {at} zero-is good (e .6) {{turn}} {{vs}} {{region0}} {{region1}} {{lanes}} {{mixes}} (e .0) (e .1) (e .2) (e .3) (e .4) (e .5) {{r}} {{e_r}}',
-)
+guard = dict(fn='tick', ret='Returned', code='u8', refusal='lengths_number', refused='refuse', any='any_malformed', open='begin', done=
+    'finish', uses=['use Rattle.lists.specs.Some.{some as some-of}', 'use Rattle.stems.specs.Call.{noMixes}',
+        'use Rattle.voice.specs.Malformed.{malformed}', 'use Rattle.voice_turn.specs.Refused.{listed, returned}',
+        'use Rattle.voice_turn.specs.Turn.{beginning}', 'use Rattle.voices.specs.Inner.{lengthsCode}',
+        'use Rattle.voices.proofs.Contract.{Ensured, begins, goes-on, refused-call, malformed-call, served-call}',
+        'use Rattle.voices.proofs.Steps.{is-true, is-false, no-refusal}'], refusal_vals=['fixed'], refusal_spec=
+    'lengthsCode fixed {lens}', any_spec='some-of (malformed (laneLength (length {lanes}))) {ys}', any_len='lanes', any_code=7, open_vals=[
+        'fixed'], open_shr=['region0', 'region1'], open_mut='mixes', open_spec='beginning {fixed} {region0} {region1}', open_left=
+    'noMixes', open_requires_proof=f'begins {at} zero-is', refused_spec='returned {} (listed [])', done_spec='returned 0 ({} .refused)',
+    tick_requires_proof=f'goes-on {at} zero-is good fresh fresh-long', tick_extra_types=[
+        '(j : ℕ) → j < n → LongAt fixed (window .now) j (ticked fixed (window .now) j ys ls-region0 ls-region1 ls-lanes fresh begun)'],
+    is_true='is-true', is_false='is-false', no_refusal='no-refusal', clause=
+    f'Ensured {at} r zs-vs zs-region0 zs-region1 zs-lanes zs-mixes', refused_proof=
+    f'refused-call {at} {{r}} {{k}} {{k_is}} {{held}} {{e_r}}', malformed_proof=f'malformed-call {at} {{r}} zero-is ({{bad}}) {{e_r}}',
+    served_proof=
+    f'served-call {at} zero-is good (e .6) {{turn}} {{vs}} {{region0}} {{region1}} {{lanes}} {{mixes}} (e .0) (e .1) (e .2) (e .3) (e '
+    f'.4) (e .5) {{r}} {{e_r}}',)
 # the function by which a program lends its records
 x = '(lent {region0} {region1} {window} {vs} {lanes} {mixes})'
-frame = dict(
-    crate='lending', fn='frame', joined='joined', framed='Framed', count=25,
-    uses=['use Rattle.stems.specs.Call.{wholeNumber}', 'use Rattle.voices.specs.Tick.{lent, left, RefusedBy}', 'use Rattle.voices.proofs.Contract.{Ensured}'],
-    call_clause='Ensured {fixed} {region0} {region1} {window} {vs} {lanes} {mixes} {r} {vs_last} {region0_last} {region1_last} {lanes_last} {mixes_last}',
-    clause=f'({{r}} .answer .number ≡ wholeNumber fixed {x}) × ({{r}} .vs ≡ left fixed {x} .memory .records ++ back) × ({{region0_last}} ≡ left fixed {x} .memory .region0) × ({{region1_last}} ≡ left fixed {x} .memory .region1) '
-           f'× ({{lanes_last}} ≡ left fixed {x} .memory .lanes) × ({{mixes_last}} ≡ left fixed {x} .mixes) × RefusedBy fixed {x} ({{r}} .answer .refused)',
-    said='ap (λ (a : Returned). a .number) (e-r .1) ∙ e .0, e-r .0 ∙ ap (λ (l : List Voice). l ++ back) (e .1), e .2, e .3, e .4, e .5, subst (λ (a : Returned). RefusedBy fixed (lent (region0 .now) (region1 .now) (window .now) front (lanes .now) (mixes .now)) (a .refused)) (sym (e-r .1)) (e .6)',
-)
+frame = dict(crate='lending', fn='frame', joined='joined', framed='Framed', count=25, uses=['use Rattle.stems.specs.Call.{wholeNumber}',
+        'use Rattle.voices.specs.Tick.{lent, left, RefusedBy}', 'use Rattle.voices.proofs.Contract.{Ensured}'], call_clause=
+    'Ensured {fixed} {region0} {region1} {window} {vs} {lanes} {mixes} {r} {vs_last} {region0_last} {region1_last} {lanes_last} '
+    '{mixes_last}', clause=
+    f'({{r}} .answer .number ≡ wholeNumber fixed {x}) × ({{r}} .vs ≡ left fixed {x} .memory .records ++ back) × ({{region0_last}} ≡ left '
+    f'fixed {x} .memory .region0) × ({{region1_last}} ≡ left fixed {x} .memory .region1) '
+    f'× ({{lanes_last}} ≡ left fixed {x} .memory .lanes) × ({{mixes_last}} ≡ left fixed {x} .mixes) × RefusedBy fixed {x} ({{r}} .answer '
+    f'.refused)', said=
+    'ap (λ (a : Returned). a .number) (e-r .1) ∙ e .0, e-r .0 ∙ ap (λ (l : List Voice). l ++ back) (e .1), e .2, e .3, e .4, e .5, subst '
+    '(λ (a : Returned). RefusedBy fixed (lent (region0 .now) (region1 .now) (window .now) front (lanes .now) (mixes .now)) (a .refused)) '
+    '(sym (e-r .1)) (e .6)',)

@@ -1,9 +1,9 @@
 // The mixer's call.
 use crate::ANSWER;
 use crate::HEAD;
-use crate::MIXES;
-use crate::REGION;
 use crate::bytes::within;
+use crate::size;
+use crate::word;
 use layout::Layout;
 use mixer::tick::Mixed;
 use mixer::tick::tick;
@@ -34,22 +34,6 @@ fn state_of(head: &[u8; HEAD]) -> Mixer {
     mixer_forms::state_of(&all[44..60])
 }
 
-// On so many of the bytes and values as the head has.
-fn lend(head: &[u8; HEAD], first: &mut [u8], second: &mut [u8], mixes: &[i32]) -> Mixed {
-    let one = within(crate::size(head, 64), first.len());
-    let two = within(crate::size(head, 68), second.len());
-    let many = within(crate::size(head, 80), mixes.len());
-    repeat(
-        crate::word(head, 4),
-        state_of(head),
-        mixer_forms::layout_of(head, 8),
-        crate::word(head, 40),
-        &mut first[0..one],
-        &mut second[0..two],
-        &mixes[0..many],
-    )
-}
-
 // The number, the state and the frame.
 fn start_of(mixed: Mixed) -> [u8; ANSWER] {
     let mut start = [0u8; ANSWER];
@@ -61,12 +45,19 @@ fn start_of(mixed: Mixed) -> [u8; ANSWER] {
     start
 }
 
-pub fn call(
-    head: &[u8; HEAD],
-    first: &mut [u8; REGION],
-    second: &mut [u8; REGION],
-    mixes: &[i32; MIXES],
-) -> [u8; ANSWER] {
-    let mixed = lend(head, first, second, mixes);
+// On so many of the bytes and values as the head has.
+pub fn call(head: &[u8; HEAD], first: &mut [u8], second: &mut [u8], mixes: &[i32]) -> [u8; ANSWER] {
+    let one = within(size(head, 64), first.len());
+    let two = within(size(head, 68), second.len());
+    let many = within(size(head, 80), mixes.len());
+    let mixed = repeat(
+        word(head, 4),
+        state_of(head),
+        mixer_forms::layout_of(head, 8),
+        word(head, 40),
+        &mut first[0..one],
+        &mut second[0..two],
+        &mixes[0..many],
+    );
     start_of(mixed)
 }

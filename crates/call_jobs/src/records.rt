@@ -2,12 +2,11 @@
 ghost use Prim.Native.Nat.{_≤_, _<_};
 use crate::RECORD;
 use crate::RECORDS;
+use lending::MOST;
 use record_reader::record_of;
 use record_writer::put_record;
 use voice::blank::default_voice;
 use voice::record::Voice;
-
-pub const MOST: usize = 25;
 
 // The records that the bytes begin with; past them stand voices as they begin.
 pub fn records_of(bytes: &[u8; RECORDS], count: usize) -> [Voice; MOST]

@@ -30,8 +30,8 @@ abbrev pub Long : Fixed → Bool → Memory → Type 0
 Long fx second m = (v : ℕ) → v < VOICES → LongAs (laneLength (length (m .lanes))) (answer fx second v m)
 
 module _ (fx : Fixed) (m : Memory) where
-  -- what voice v is answered: "served, modules 2 to 6 give v's record, lane, configuration and status bytes and what it adds. Refused, all
-  -- stays and v adds 0 to every mix value"
+  -- what voice v is answered: "served, modules 2 to 6 give v's record, lane, configuration and status bytes and what it adds", and
+  -- "Refused, all stays and v adds 0 to every mix value"
   abbrev pub gets : ℕ → Answer
   gets v = answer fx (secondRead (fx .layout) m) v m
 

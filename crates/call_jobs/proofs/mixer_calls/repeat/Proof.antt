@@ -6,7 +6,8 @@ use Rattle.call_jobs.proofs.mixer_calls.repeat.Statement.{statement}
 use Rattle.call_jobs.proofs.mixer_calls.repeat.Tie as tie
 
 abbrev Inv-loop : tie.InvT-loop
-Inv-loop times l read first₀ second₀ mixes mixed₀ left₀ first second mixed left = (length first ≡ length first₀) × (length second ≡ length second₀)
+Inv-loop times l read first₀ second₀ mixes mixed₀ left₀ first second mixed left =
+    (length first ≡ length first₀) × (length second ≡ length second₀)
 
 abbrev μ-loop : tie.MeasureT-loop
 μ-loop times l read first₀ second₀ mixes mixed₀ left₀ first second mixed left = left

@@ -6,19 +6,20 @@ use Rattle.call_jobs.proofs.voice_calls.repeat.Statement.{statement}
 use Rattle.call_jobs.proofs.voice_calls.repeat.Tie as tie
 
 abbrev Inv-loop : tie.InvT-loop
-Inv-loop times fixed count first₀ second₀ window lanes₀ mixes₀ framed₀ left₀ first second lanes mixes framed left = (length first ≡ length first₀) × (length second ≡ length second₀) × (length lanes ≡ length lanes₀) × (length mixes ≡ length mixes₀)
+Inv-loop times count fixed first₀ second₀ window lanes₀ mixes₀ framed₀ left₀ first second lanes mixes framed left =
+    (length first ≡ length first₀) × (length second ≡ length second₀) × (length lanes ≡ length lanes₀) × (length mixes ≡ length mixes₀)
 
 abbrev μ-loop : tie.MeasureT-loop
-μ-loop times fixed count first₀ second₀ window lanes₀ mixes₀ framed₀ left₀ first second lanes mixes framed left = left
+μ-loop times count fixed first₀ second₀ window lanes₀ mixes₀ framed₀ left₀ first second lanes mixes framed left = left
 
-frame-requires : tie.Need-frame-requires Inv-loop μ-loop
-frame-requires c κs = search needs
+once-requires : tie.Need-once-requires Inv-loop μ-loop
+once-requires c κs = search needs
 
 loop-holds : tie.Need-loop-holds Inv-loop μ-loop
 loop-holds c = search needs
 
-frame-requires-2 : tie.Need-frame-requires-2 Inv-loop μ-loop
-frame-requires-2 c κs = search needs
+once-requires-2 : tie.Need-once-requires-2 Inv-loop μ-loop
+once-requires-2 c κs = search needs
 
 sub-left : tie.Need-sub-left Inv-loop μ-loop
 sub-left c = search needs
@@ -50,9 +51,9 @@ repeat-spec =
     (tie.spec
     Inv-loop
     μ-loop
-    frame-requires
+    once-requires
     loop-holds
-    frame-requires-2
+    once-requires-2
     sub-left
     loop-less
     loop-again
