@@ -16,7 +16,7 @@ cfg = dict(element_at=64,  # where the record lies in `Taken`
     homes=homes, crate='voices', specs='Inner', elem='Voice', served='Taken', zero='defaultVoice', state='State', serve='take_turn',
     serve_at='serve_at', tick='serve_all', names='State, LongAt, AllFormed, serve-one, ticked', uses=[
         'use Rattle.stems.specs.Memory.{VOICES, laneLength}', 'use Rattle.voice.specs.Blank.{defaultVoice}',
-        'use Rattle.voice.specs.Malformed.{WellFormed}', 'use Rattle.stems.specs.Whole.{LongAs}',
+        'use Rattle.voice.specs.Malformed.{WellFormed}', 'use Rattle.stems.specs.Inner.{LongAs}',
         'use Rattle.voice_turn.specs.Turn.{Fitting, answerTo, takenBy, region0By, region1By, lanesBy, mixesBy}',
         'use Rattle.voices.proofs.Steps.{counted, formed-now, fitting-now, others-stay, upto-next}'], extras=[('turn', 'val',
             'Turn'), ('fixed', 'val', 'Fixed'), ('region0', 'mut', 'u8'), ('region1', 'mut', 'u8'), ('window', 'shr', 'u8'), ('lanes',

@@ -18,7 +18,8 @@ use Rattle.voice_frame.specs.VoiceFrame.{Given, Answer, served, refused, config
 use Rattle.stems.specs.declared.Fixed.{Fixed}
 use Rattle.stems.specs.Memory.{Memory, laneLength, Kind, itsConfiguration, itsStatus, placeOf, bytesOf}
 use Rattle.stems.specs.Call.{answer, written, put, serve, serveAll, lengths}
-use Rattle.stems.specs.Whole.{LongAs, Long, count}
+use Rattle.stems.specs.Inner.{LongAs, Long}
+use Rattle.stems.specs.Whole.{count}
 use Rattle.stems.proofs.Lanes.{lane-end}
 use Rattle.stems.proofs.Shape.{Fits, within}
 use Rattle.stems.proofs.Serve.{Same, same-refl}

@@ -29,7 +29,7 @@ use Rattle.stems.specs.declared.Fixed.{Fixed}
 use Rattle.stems.specs.Memory.{Memory, Typed, laneLength, laneAt, laneOf, recordOf, Kind, itsConfiguration, itsStatus}
 use Rattle.stems.specs.Memory.{itsCoefficients, theCounter, placeOf, bytesOf}
 use Rattle.stems.specs.Call.{secondRead, fedIn, answer, written, put, serve, lengths, lengthsNumber}
-use Rattle.stems.specs.Whole.{LongAs}
+use Rattle.stems.specs.Inner.{LongAs}
 use Rattle.stems.proofs.Lanes.{lane-is, lane-long, same-lane, other-lane}
 use Rattle.stems.proofs.Shape.{Fits, fits, apart-configuration, apart-status}
 

@@ -19,7 +19,8 @@ use Rattle.voice_laws.proofs.Numbers.{parts-wrap}
 use Rattle.stems.specs.declared.Fixed.{Fixed}
 use Rattle.stems.specs.Memory.{Memory, laneLength}
 use Rattle.stems.specs.Call.{answer, serve, adds, serveAll, mixesIn, Refusal, noted, refusalsIn, numberIn, lengths, noMixes}
-use Rattle.stems.specs.Whole.{LongAs, Long, refusedOf, count}
+use Rattle.stems.specs.Inner.{LongAs, Long}
+use Rattle.stems.specs.Whole.{refusedOf, count}
 use Rattle.stems.proofs.Orders.{count-zero, Once, count-one, stands-first, stands-in, stands-later, stands-other, Below}
 use Rattle.stems.proofs.Orders.{Distinct, sum}
 use Rattle.stems.proofs.Shape.{Fits}

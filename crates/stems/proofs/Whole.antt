@@ -22,7 +22,8 @@ use Rattle.stems.specs.declared.Fixed.{Fixed}
 use Rattle.stems.specs.Memory.{Memory, Lent, Typed, laneLength, laneOf, recordOf, bytesOf}
 use Rattle.stems.specs.Call.{secondRead, adds, sumOf, put, serve, serveAll, mixesIn, refusalsIn, lengths}
 use Rattle.stems.specs.Call.{lengthsNumber, wholeNumber, noMixes, called, allVoices}
-use Rattle.stems.specs.Whole.{LongAs, Long, gets, regionLeft, memoryLeft, mixesLeft, leaves, refusedOf, refusals}
+use Rattle.stems.specs.Inner.{LongAs, Long}
+use Rattle.stems.specs.Whole.{gets, regionLeft, memoryLeft, mixesLeft, leaves, refusedOf, refusals}
 use Rattle.stems.specs.Whole.{EveryOrder, ContractIsCall}
 use Rattle.stems.proofs.Orders.{Order, order}
 use Rattle.stems.proofs.Lanes.{own-lane, lanes-joined}

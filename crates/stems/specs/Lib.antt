@@ -1,5 +1,6 @@
 pub mod Memory
 pub mod Call
+pub mod Inner
 pub mod Whole
 pub mod Exactly
 pub mod Stems

@@ -2,32 +2,20 @@
 -- where that voice's own lies. Assumes nothing: these are definitions and statements; `every-order` and `whole-served` of proofs/Whole.antt
 -- and `listed-once` of proofs/Listed.antt prove the three.
 use mathlib.Core.Path.{_≡_}
-use Prim.Native.Nat.{ℕ, zero, suc, _+_, _<_}
+use Prim.Native.Nat.{ℕ, zero, suc, _+_}
 use mathlib.Core.Bool.{Bool, true, false, not, _&&_, cond}
 use mathlib.Core.List.{List, [], _∷_, map, List·Permᴰ}
 use lib.Dec.{eqb, ltb}
 use lib.IntN.{ℤ}
-use lib.ListN.{length}
 use Rattle.lists.specs.Joined.{joined}
 use Rattle.lists.specs.Splice.{splice}
 use Rattle.lists.specs.Tabulate.{tabulate}
 use Rattle.numbers.specs.Sizes.{MIXES}
 use Rattle.numbers.specs.Wrap.{wrap32}
-use Rattle.fields.specs.Fields.{configuration, status, total}
-use Rattle.voice_frame.specs.VoiceFrame.{Answer, served, refused, numberOf, voiceAfter, laneAfter, configurationAfter, statusAfter}
+use Rattle.voice_frame.specs.VoiceFrame.{Answer, numberOf, voiceAfter, laneAfter, configurationAfter, statusAfter}
 use Rattle.stems.specs.declared.Fixed.{Fixed}
-use Rattle.stems.specs.Memory.{VOICES, Memory, Lent, Typed, laneLength, laneOf, recordOf, itsConfiguration, itsStatus, bytesOf}
+use Rattle.stems.specs.Memory.{VOICES, Memory, Lent, Typed, laneOf, recordOf, itsConfiguration, itsStatus, bytesOf}
 use Rattle.stems.specs.Call.{secondRead, answer, adds, Refusal, noted, wholeNumber, called, allVoices, AllServed, sumOf}
-
--- what a served voice is given is as long as its places: a lane of L samples, and the bytes of a configuration and of a status
-unfoldable pub LongAs : ℕ → Answer → Type 0
-LongAs L (served g) =
-    (length (g .lane) ≡ L) × (length (g .configuration) ≡ total configuration) × (length (g .status) ≡ total status)
-LongAs L (refused n) = Unit {0}
-
--- and so of every voice in this memory
-abbrev pub Long : Fixed → Bool → Memory → Type 0
-Long fx second m = (v : ℕ) → v < VOICES → LongAs (laneLength (length (m .lanes))) (answer fx second v m)
 
 module _ (fx : Fixed) (m : Memory) where
   -- what voice v is answered: "served, modules 2 to 6 give v's record, lane, configuration and status bytes and what it adds", and

@@ -16,7 +16,7 @@ use Rattle.voice_frame.specs.VoiceFrame.{fed, voiceFrame, Answer, served, refus
 use Rattle.stems.specs.declared.Fixed.{Fixed}
 use Rattle.stems.specs.Memory.{laneLength, laneAt, laneOf, placeOf, bytesOf}
 use Rattle.stems.specs.Call.{written}
-use Rattle.stems.specs.Whole.{LongAs}
+use Rattle.stems.specs.Inner.{LongAs}
 use Rattle.voice_turn.specs.Turn.{answerTo, regionBy, lanesWith}
 
 -- a voice's frame on what is lent of a region read and of the lanes, with a copy of its coefficients, is its frame in memory

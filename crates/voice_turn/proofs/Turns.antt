@@ -11,7 +11,7 @@ use Rattle.voice_frame.specs.declared.serve.Served.{Served}
 use Rattle.voice_frame.specs.VoiceFrame.{Answer, numberOf, voiceAfter, mixesAfter}
 use Rattle.stems.specs.declared.Fixed.{Fixed}
 use Rattle.stems.specs.Memory.{laneLength}
-use Rattle.stems.specs.Whole.{LongAs}
+use Rattle.stems.specs.Inner.{LongAs}
 use Rattle.voice_turn.specs.declared.turn.Taken.{Taken}
 use Rattle.voice_turn.specs.declared.turn.Turn.{Turn}
 use Rattle.voice_turn.specs.Refused.{refusedAfter}

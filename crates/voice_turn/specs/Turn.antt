@@ -1,4 +1,5 @@
--- What one voice's turn makes of each thing that is lent, and how a call begins. Assumes nothing: these are definitions.
+-- What one voice's turn makes of each thing that is lent, and how a call begins. Inner definitions: the call's contract does not name them.
+-- Assumes nothing: these are definitions.
 use mathlib.Core.Path.{_≡_}
 use Prim.Native.Nat.{ℕ, _+_, _*_, _≤_}
 use mathlib.Core.Bool.{Bool, not}

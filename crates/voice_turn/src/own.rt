@@ -14,7 +14,7 @@ ghost use lib.ListN.{length};
 ghost use Rattle.lists.specs.Splice.{part};
 ghost use Rattle.settings.specs.Steps.{coefficientBytes};
 ghost use Rattle.stems.specs.Memory.{laneLength};
-ghost use Rattle.stems.specs.Whole.{LongAs};
+ghost use Rattle.stems.specs.Inner.{LongAs};
 ghost use Rattle.voice.specs.Malformed.{WellFormed};
 ghost use Rattle.voice_frame.specs.VoiceFrame.{numberOf, voiceAfter, mixesAfter};
 ghost use Rattle.voice_turn.specs.Turn.{Room, answerTo, regionBy, lanesWith};

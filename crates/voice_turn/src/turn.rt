@@ -10,7 +10,7 @@ ghost use mathlib.Core.Path.{_≡_};
 ghost use Prim.Native.Nat.{_<_, _≤_};
 ghost use lib.ListN.{length};
 ghost use Rattle.stems.specs.Memory.{VOICES, laneLength};
-ghost use Rattle.stems.specs.Whole.{LongAs};
+ghost use Rattle.stems.specs.Inner.{LongAs};
 ghost use Rattle.voice.specs.Malformed.{WellFormed};
 ghost use Rattle.voice_turn.specs.Refused.{refusedAfter, returned};
 ghost use Rattle.voice_turn.specs.Turn.{Fitting, answerTo, takenBy, region0By, region1By, lanesBy, mixesBy};

@@ -18,7 +18,8 @@ use Rattle.voice.proofs.Formed.{not-malformed-formed}
 use Rattle.stems.specs.Call.{Refusal, secondRead, serveAll, refusalsIn, lengths, lengthsNumber, orElse, wholeNumber, noMixes, called}
 use Rattle.stems.specs.Call.{allVoices}
 use Rattle.stems.specs.Memory.{Memory, Lent, laneLength}
-use Rattle.stems.specs.Whole.{Long, Listed, leaves, refusals}
+use Rattle.stems.specs.Inner.{Long}
+use Rattle.stems.specs.Whole.{Listed, leaves, refusals}
 use Rattle.stems.specs.declared.Fixed.{Fixed}
 use Rattle.stems.proofs.Orders.{order}
 use Rattle.stems.proofs.Shape.{Fits, fits}

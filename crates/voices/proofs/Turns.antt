@@ -15,7 +15,7 @@ use Rattle.voice.specs.declared.record.Voice.{Voice}
 use Rattle.voice_frame.specs.VoiceFrame.{Answer, served, refused, numberOf, voiceAfter, mixesAfter}
 use Rattle.stems.specs.Call.{secondRead, fedIn, answer, put, serve, serveAll, mixesIn, refusalsIn, lengths, upTo, noMixes, noted}
 use Rattle.stems.specs.Memory.{Memory, laneLength, recordOf}
-use Rattle.stems.specs.Whole.{LongAs}
+use Rattle.stems.specs.Inner.{LongAs}
 use Rattle.stems.specs.declared.Fixed.{Fixed}
 use Rattle.stems.proofs.Later.{serves-more, mixes-more, refusals-more, turns-more, refusals-few, up-long}
 use Rattle.stems.proofs.Serve.{Turn as InTurn}

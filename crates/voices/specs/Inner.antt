@@ -12,7 +12,7 @@ use Rattle.voice.specs.declared.record.Voice.{Voice}
 use Rattle.stems.specs.Call.{lengthsNumber}
 use Rattle.stems.specs.Memory.{laneLength}
 use Rattle.stems.specs.declared.Fixed.{Fixed}
-use Rattle.stems.specs.Whole.{LongAs}
+use Rattle.stems.specs.Inner.{LongAs}
 use Rattle.voice_turn.specs.Turn.{answerTo, takenBy, region0By, region1By, lanesBy, mixesBy, lengthsOf}
 use Rattle.voice_turn.specs.declared.turn.Turn.{Turn}
 

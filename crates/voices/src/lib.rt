@@ -19,7 +19,7 @@ ghost use lib.ListN.{length, set, getD};
 ghost use Rattle.lists.specs.Some.{some};
 ghost use Rattle.stems.specs.Call.{wholeNumber};
 ghost use Rattle.stems.specs.Memory.{VOICES, laneLength};
-ghost use Rattle.stems.specs.Whole.{LongAs};
+ghost use Rattle.stems.specs.Inner.{LongAs};
 ghost use Rattle.voice.specs.Blank.{defaultVoice};
 ghost use Rattle.voice.specs.Malformed.{malformed, WellFormed};
 ghost use Rattle.voice_turn.specs.Turn.{Fitting, answerTo, takenBy, region0By, region1By, lanesBy, mixesBy};
