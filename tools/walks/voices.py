@@ -5,10 +5,10 @@ long = 'LongAs (laneLength (length {lanes})) (answerTo {fixed} ({turn} .second) 
 homes = {
     'Voice': ('voice', 'record'),
     'Fixed': ('stems', ''),
-    'Turn': ('voice_turn', 'turn'), 'Taken': ('voice_turn', 'turn'), 'take_turn': ('voice_turn', 'turn'), 'finish': ('voice_turn', 'turn'),
-    'Returned': ('voice_turn', 'refused'), 'refuse': ('voice_turn', 'refused'),
-    'lengths_number': ('voice_turn', 'refusal'), 'worse': ('voice_turn', 'refusal'),
-    'begin': ('voice_turn', 'begin'),
+    'Turn': ('calls', 'begin'), 'Taken': ('voice_turn', 'turn'), 'take_turn': ('voice_turn', 'turn'), 'finish': ('calls', 'begin'),
+    'Returned': ('calls', 'refused'), 'refuse': ('calls', 'refused'),
+    'lengths_number': ('calls', 'refusal'), 'worse': ('calls', 'refusal'),
+    'begin': ('calls', 'begin'),
 }
 muts = ('region0', 'region1', 'lanes', 'mixes')
 cfg = dict(element_at=64,  # where the record lies in `Taken`
@@ -17,7 +17,7 @@ cfg = dict(element_at=64,  # where the record lies in `Taken`
     serve_at='serve_at', tick='serve_all', names='State, LongAt, AllFormed, serve-one, ticked', uses=[
         'use Rattle.stems.specs.Memory.{VOICES, laneLength}', 'use Rattle.voice.specs.Blank.{defaultVoice}',
         'use Rattle.voice.specs.Malformed.{WellFormed}', 'use Rattle.stems.specs.Inner.{LongAs}',
-        'use Rattle.voice_turn.specs.Turn.{Fitting, answerTo, takenBy, region0By, region1By, lanesBy, mixesBy}',
+        'use Rattle.calls.specs.Begin.{Fitting}', 'use Rattle.voice_turn.specs.Turn.{answerTo, takenBy, region0By, region1By, lanesBy, mixesBy}',
         'use Rattle.voices.proofs.Steps.{counted, formed-now, fitting-now, others-stay, upto-next}'], extras=[('turn', 'val',
             'Turn'), ('fixed', 'val', 'Fixed'), ('region0', 'mut', 'u8'), ('region1', 'mut', 'u8'), ('window', 'shr', 'u8'), ('lanes',
             'mut', 'i16'), ('mixes', 'mut', 'i32')], carried='turn', carried_from='start', out='takenBy', last={x: x + 'By' for x in muts},
@@ -50,8 +50,8 @@ lent = '(lent {region0} {region1} {window} {ys} {lanes} {mixes})'
 at = 'fixed ls-region0 ls-region1 (window .now) ys ls-lanes ls-mixes'
 guard = dict(fn='tick', ret='Returned', code='u8', refusal='lengths_number', refused='refuse', any='any_malformed', open='begin', done=
     'finish', uses=['use Rattle.lists.specs.Some.{some as some-of}', 'use Rattle.stems.specs.Call.{noMixes}',
-        'use Rattle.voice.specs.Malformed.{malformed}', 'use Rattle.voice_turn.specs.Refused.{listed, returned}',
-        'use Rattle.voice_turn.specs.Turn.{beginning}', 'use Rattle.voices.specs.Inner.{lengthsCode}',
+        'use Rattle.voice.specs.Malformed.{malformed}', 'use Rattle.calls.specs.Refused.{listed, returned}',
+        'use Rattle.calls.specs.Begin.{beginning}', 'use Rattle.voices.specs.Inner.{lengthsCode}',
         'use Rattle.voices.proofs.Contract.{Ensured, begins, goes-on, refused-call, malformed-call, served-call}',
         'use Rattle.voices.proofs.Steps.{is-true, is-false, no-refusal}'], refusal_vals=['fixed'], refusal_spec=
     'lengthsCode fixed {lens}', any_spec='some-of (malformed (laneLength (length {lanes}))) {ys}', any_len='lanes', any_code=7, open_vals=[

@@ -8,11 +8,11 @@ use crate::records::put_records;
 use crate::records::records_of;
 use crate::size;
 use crate::word;
+use calls::refused::Returned;
 use lending::Framed;
 use lending::MOST;
 use stems::Fixed;
 use voice::record::Voice;
-use voice_turn::refused::Returned;
 
 // Once. Nothing is promised, so that no caller has to carry what the call promises.
 fn once(

@@ -1,8 +1,8 @@
 // Lends a program's records to the call for all voices, for tests only: a program holds its records in an array, and code over an array by
 // value is covered, where code over a lent slice of records is not. `frame` lends the first so many, and refuses nothing of its own.
+use calls::refused::Returned;
 use stems::Fixed;
 use voice::record::Voice;
-use voice_turn::refused::Returned;
 use voices::tick;
 ghost use mathlib.Core.List.{_++_};
 ghost use mathlib.Core.Path.{_≡_};

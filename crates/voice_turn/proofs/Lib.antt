@@ -1,5 +1,3 @@
-pub mod Rooms
 pub mod Back
+pub mod Rooms
 pub mod Turns
-pub mod Numbers
-pub mod Listed

@@ -8,7 +8,8 @@ use Rattle.layout.specs.Exactly.{Sound}
 use Rattle.stems.specs.declared.Fixed.{Fixed}
 use Rattle.stems.specs.Memory.{laneLength}
 use Rattle.stems.proofs.Shape.{Fits, fits}
-use Rattle.voice_turn.specs.Turn.{Fitting, lengthsOf, Room, Counted}
+use Rattle.calls.specs.Begin.{Fitting, lengthsOf}
+use Rattle.voice_turn.specs.Turn.{Room}
 
 -- one more than i of something, where i is below 24
 one-more : (i n : ℕ) → i < 24 → i * n + n ≤ 24 * n
@@ -38,10 +39,3 @@ module _ (fx : Fixed) (region0 region1 window lanes mixes : ℕ) (fit : Fitting 
 
   pub room1 : (i : ℕ) → i < 24 → Room (fx .layout) i region1 region0 lanes mixes
   room1 i h = room i region1 region0 h (omega (arith, sound .same)) (omega arith)
-
-  -- the frame counters can be read
-  pub counted : Counted fx region0 region1
-  counted = record {
-    in0 = omega (arith, sound .within 3 (lit< tt));
-    in1 = omega (arith, sound .within 3 (lit< tt), sound .same);
-  }

@@ -13,8 +13,8 @@ use Rattle.stems.specs.declared.Fixed.{Fixed}
 use Rattle.stems.specs.Memory.{laneLength}
 use Rattle.stems.specs.Inner.{LongAs}
 use Rattle.voice_turn.specs.declared.turn.Taken.{Taken}
-use Rattle.voice_turn.specs.declared.turn.Turn.{Turn}
-use Rattle.voice_turn.specs.Refused.{refusedAfter}
+use Rattle.calls.specs.declared.begin.Turn.{Turn}
+use Rattle.calls.specs.Refused.{refusedAfter}
 use Rattle.voice_turn.specs.Turn.{answerTo, regionBy, lanesWith, takenBy, region0By, region1By, lanesBy, mixesBy}
 
 module _ (v : Voice) (i : ℕ) (t : Turn) (fx : Fixed) (region0 region1 window : List ℕ) (lanes mixes : List ℤ) where

@@ -1,53 +1,24 @@
--- What one voice's turn makes of each thing that is lent, and how a call begins. Inner definitions: the call's contract does not name them.
--- Assumes nothing: these are definitions.
+-- What one voice's turn makes of each thing that is lent. Inner definitions: the call's contract does not name them. Assumes nothing: these
+-- are definitions.
 use mathlib.Core.Path.{_≡_}
 use Prim.Native.Nat.{ℕ, _+_, _*_, _≤_}
 use mathlib.Core.Bool.{Bool, not}
-use mathlib.Core.List.{List, []}
-use lib.Dec.{eqb}
+use mathlib.Core.List.{List}
 use lib.IntN.{ℤ}
 use Rattle.lists.specs.Splice.{splice}
 use Rattle.fields.specs.Fields.{configuration, status, total}
 use Rattle.numbers.specs.Sizes.{MIXES}
-use Rattle.little.specs.Little.{at16}
 use Rattle.layout.specs.declared.Layout.{Layout}
-use Rattle.region.specs.Choice.{chosen}
 use Rattle.adpcm.specs.Sizes.{mostSamples}
 use Rattle.settings.specs.Steps.{coefficientBytes}
 use Rattle.voice.specs.declared.record.Voice.{Voice}
 use Rattle.voice_frame.specs.VoiceFrame.{Answer, served, refused, voiceFrame, numberOf, voiceAfter, mixesAfter}
-use Rattle.stems.specs.Memory.{VOICES, laneLength, laneAt}
-use Rattle.stems.specs.Call.{Lengths, lengthsNumber, fedWith, written}
+use Rattle.stems.specs.Memory.{laneLength, laneAt}
+use Rattle.stems.specs.Call.{fedWith, written}
 use Rattle.stems.specs.declared.Fixed.{Fixed}
-use Rattle.voice_turn.specs.Refused.{listed, refusedAfter}
+use Rattle.calls.specs.Refused.{refusedAfter}
+use Rattle.calls.specs.declared.begin.Turn.{Turn}
 use Rattle.voice_turn.specs.declared.turn.Taken.{Taken}
-use Rattle.voice_turn.specs.declared.turn.Turn.{Turn}
-
-abbrev pub lengthsOf : ℕ → ℕ → ℕ → ℕ → ℕ → Lengths
-lengthsOf records region0 region1 window lanes = record {
-  region0 = region0;
-  region1 = region1;
-  window = window;
-  records = records;
-  lanes = lanes;
-}
-
--- none of 1 to 6 applies to so much lent, with 24 records
-abbrev pub Fitting : Fixed → ℕ → ℕ → ℕ → ℕ → ℕ → Type 0
-Fitting fx region0 region1 window lanes mixes = lengthsNumber fx (lengthsOf VOICES region0 region1 window lanes) mixes ≡ 0
-
--- ---- how a call begins
-
--- the frame counter lies in both regions
-pub record Counted (fx : Fixed) (region0 region1 : ℕ) : Type 0 where
-  pub in0 : fx .layout .«frame_counter» + 2 ≤ region0
-  pub in1 : fx .layout .«frame_counter» + 2 ≤ region1
-
-unfoldable pub beginning : Fixed → List ℕ → List ℕ → Turn
-beginning fx region0 region1 = record {
-  second = eqb (chosen (at16 region0 (fx .layout .«frame_counter»)) (at16 region1 (fx .layout .«frame_counter»))) 1;
-  refused = listed [];
-}
 
 -- ---- one voice's turn
 

@@ -1,5 +1,5 @@
 // A voice's frame in the parts of lent memory that are the voice's own.
-use crate::refused::VOICES;
+use calls::refused::VOICES;
 use fields::config::CONFIG_SIZE;
 use fields::status::STATUS_SIZE;
 use little::copy;

@@ -1,25 +1,19 @@
 // One voice's turn in a call.
 use crate::own::serve_in;
-use crate::refused::Refused;
-use crate::refused::Returned;
-use crate::refused::note;
+use calls::begin::Turn;
+use calls::begin::carry_on;
 use stems::Fixed;
 use voice::record::Voice;
 use voice_frame::serve::Served;
 ghost use mathlib.Core.Path.{_≡_};
 ghost use Prim.Native.Nat.{_<_, _≤_};
 ghost use lib.ListN.{length};
+ghost use Rattle.calls.specs.Begin.{Fitting};
+ghost use Rattle.calls.specs.Refused.{refusedAfter};
 ghost use Rattle.stems.specs.Memory.{VOICES, laneLength};
 ghost use Rattle.stems.specs.Inner.{LongAs};
 ghost use Rattle.voice.specs.Malformed.{WellFormed};
-ghost use Rattle.voice_turn.specs.Refused.{refusedAfter, returned};
-ghost use Rattle.voice_turn.specs.Turn.{Fitting, answerTo, takenBy, region0By, region1By, lanesBy, mixesBy};
-
-// What a call carries from voice to voice: whether it is region 1 that is read, and the voices refused so far.
-pub struct Turn {
-    pub second: bool,
-    pub refused: Refused,
-}
+ghost use Rattle.voice_turn.specs.Turn.{answerTo, takenBy, region0By, region1By, lanesBy, mixesBy};
 
 // What a voice's turn comes to: what the call carries on, and the voice's record.
 pub struct Taken {
@@ -35,16 +29,9 @@ fn hand_on(turn: Turn, i: usize, done: Served) -> Taken
     ensures second { λ r. ⌜ r .turn .second ≡ turn .second ⌝ }
     ensures refused { λ r. ⌜ r .turn .refused ≡ refusedAfter i (done .number) (turn .refused) ⌝ }
 {
-    let refused = turn.refused;
-    let more = note(refused, i, done.number);
+    let next = carry_on(turn, i, done.number);
     let v = done.voice;
-    Taken {
-        turn: Turn {
-            second: turn.second,
-            refused: more,
-        },
-        v,
-    }
+    Taken { turn: next, v }
 }
 
 // Takes voice i's turn: its frame is served or refused in lent memory.
@@ -80,12 +67,4 @@ pub fn take_turn(
     }
     let done = serve_in(v, i, fixed, region0, region1, window, lanes, mixes);
     hand_on(turn, i, done)
-}
-
-// What a call that serves gives back.
-pub fn finish(turn: Turn) -> Returned
-    ensures { λ r. ⌜ r ≡ returned 0 (turn .refused) ⌝ }
-{
-    let refused = turn.refused;
-    Returned { number: 0, refused }
 }

@@ -25,11 +25,11 @@ use Rattle.stems.proofs.Orders.{order}
 use Rattle.stems.proofs.Shape.{Fits, fits}
 use Rattle.stems.proofs.Turns.{all-waiting, turns-long}
 use Rattle.stems.proofs.Whole.{every-order-long, refusals-order}
-use Rattle.voice_turn.specs.Refused.{listed, returned}
-use Rattle.voice_turn.specs.Turn.{Fitting, Counted, beginning}
-use Rattle.voice_turn.specs.declared.refused.Refused.{Refused}
-use Rattle.voice_turn.specs.declared.refused.Returned.{Returned}
-use Rattle.voice_turn.specs.declared.turn.Turn.{Turn}
+use Rattle.calls.specs.Refused.{listed, returned}
+use Rattle.calls.specs.Begin.{Fitting, Counted, beginning}
+use Rattle.calls.specs.declared.refused.Refused.{Refused}
+use Rattle.calls.specs.declared.refused.Returned.{Returned}
+use Rattle.calls.specs.declared.begin.Turn.{Turn}
 use Rattle.voices.specs.Inner.{State, AllFormed, LongAt, lengthsCode}
 use Rattle.voices.specs.Tick.{lent, left, RefusedBy}
 use Rattle.voices.proofs.Turns.{memoryOf, st, after, in-turn}

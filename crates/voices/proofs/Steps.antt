@@ -21,10 +21,11 @@ use Rattle.voice.specs.declared.record.Voice.{Voice}
 use Rattle.stems.specs.Memory.{laneLength}
 use Rattle.stems.specs.declared.Fixed.{Fixed}
 use Rattle.voice_frame.specs.VoiceFrame.{numberOf}
-use Rattle.voice_turn.specs.Refused.{refusedAfter}
-use Rattle.voice_turn.specs.Turn.{Fitting, answered, takenBy}
-use Rattle.voice_turn.specs.declared.refused.Refused.{Refused}
-use Rattle.voice_turn.specs.declared.turn.Turn.{Turn}
+use Rattle.calls.specs.Refused.{refusedAfter}
+use Rattle.calls.specs.Begin.{Fitting}
+use Rattle.voice_turn.specs.Turn.{answered, takenBy}
+use Rattle.calls.specs.declared.refused.Refused.{Refused}
+use Rattle.calls.specs.declared.begin.Turn.{Turn}
 use Rattle.voices.specs.Inner.{AllFormed, anyUpTo}
 
 -- a turn notes one voice at the most

@@ -21,10 +21,11 @@ use Rattle.stems.proofs.Later.{serves-more, mixes-more, refusals-more, turns-mo
 use Rattle.stems.proofs.Serve.{Turn as InTurn}
 use Rattle.stems.proofs.Shape.{Fits}
 use Rattle.stems.proofs.Turns.{Turns, all-lengths}
-use Rattle.voice_turn.specs.Refused.{listed, refusedAfter}
-use Rattle.voice_turn.specs.Turn.{answerTo, regionBy, lanesWith, takenBy, region0By, region1By, lanesBy, mixesBy, beginning}
-use Rattle.voice_turn.specs.declared.turn.Turn.{Turn}
-use Rattle.voice_turn.proofs.Listed.{listed-after}
+use Rattle.calls.specs.Refused.{listed, refusedAfter}
+use Rattle.calls.specs.Begin.{beginning}
+use Rattle.voice_turn.specs.Turn.{answerTo, regionBy, lanesWith, takenBy, region0By, region1By, lanesBy, mixesBy}
+use Rattle.calls.specs.declared.begin.Turn.{Turn}
+use Rattle.calls.proofs.Listed.{listed-after}
 use Rattle.voices.specs.Inner.{State, serve-one, ticked, LongAt}
 
 -- what an answer leaves in memory, thing by thing

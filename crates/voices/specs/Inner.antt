@@ -13,8 +13,9 @@ use Rattle.stems.specs.Call.{lengthsNumber}
 use Rattle.stems.specs.Memory.{laneLength}
 use Rattle.stems.specs.declared.Fixed.{Fixed}
 use Rattle.stems.specs.Inner.{LongAs}
-use Rattle.voice_turn.specs.Turn.{answerTo, takenBy, region0By, region1By, lanesBy, mixesBy, lengthsOf}
-use Rattle.voice_turn.specs.declared.turn.Turn.{Turn}
+use Rattle.calls.specs.Begin.{lengthsOf}
+use Rattle.voice_turn.specs.Turn.{answerTo, takenBy, region0By, region1By, lanesBy, mixesBy}
+use Rattle.calls.specs.declared.begin.Turn.{Turn}
 
 -- ---- the loop that serves
 

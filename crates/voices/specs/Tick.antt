@@ -9,8 +9,8 @@ use Rattle.stems.specs.Call.{Refusal, wholeNumber}
 use Rattle.stems.specs.Memory.{Lent}
 use Rattle.stems.specs.Whole.{Listed, leaves}
 use Rattle.stems.specs.declared.Fixed.{Fixed}
-use Rattle.voice_turn.specs.Refused.{listed}
-use Rattle.voice_turn.specs.declared.refused.Refused.{Refused}
+use Rattle.calls.specs.Refused.{listed}
+use Rattle.calls.specs.declared.refused.Refused.{Refused}
 
 -- all that is lent to the call
 abbrev pub lent : List ℕ → List ℕ → List ℕ → List Voice → List ℤ → List ℤ → Lent

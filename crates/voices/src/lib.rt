@@ -3,15 +3,15 @@
 // region to be read, sets the mixes to 0 and gives each voice its turn; a voice that is refused, by 20 or 21, keeps what is its own, adds
 // nothing and goes into the list that the call gives back. Here is only what goes over the slice of records: each record is taken out,
 // handed by value to `voice_turn` and put back. That these functions meet their contracts is written by tools/walks.
+use calls::begin::Turn;
+use calls::begin::begin;
+use calls::begin::finish;
+use calls::refusal::lengths_number;
+use calls::refusal::worse;
+use calls::refused::Returned;
+use calls::refused::refuse;
 use stems::Fixed;
 use voice::record::Voice;
-use voice_turn::begin::begin;
-use voice_turn::refusal::lengths_number;
-use voice_turn::refusal::worse;
-use voice_turn::refused::Returned;
-use voice_turn::refused::refuse;
-use voice_turn::turn::Turn;
-use voice_turn::turn::finish;
 use voice_turn::turn::take_turn;
 ghost use mathlib.Core.Path.{_≡_};
 ghost use Prim.Native.Nat.{ℕ, _<_, _≤_};
@@ -22,7 +22,8 @@ ghost use Rattle.stems.specs.Memory.{VOICES, laneLength};
 ghost use Rattle.stems.specs.Inner.{LongAs};
 ghost use Rattle.voice.specs.Blank.{defaultVoice};
 ghost use Rattle.voice.specs.Malformed.{malformed, WellFormed};
-ghost use Rattle.voice_turn.specs.Turn.{Fitting, answerTo, takenBy, region0By, region1By, lanesBy, mixesBy};
+ghost use Rattle.calls.specs.Begin.{Fitting};
+ghost use Rattle.voice_turn.specs.Turn.{answerTo, takenBy, region0By, region1By, lanesBy, mixesBy};
 ghost use Rattle.voices.specs.Inner.{LongAt, AllFormed, ticked};
 ghost use Rattle.voices.specs.Tick.{lent, left, RefusedBy};
 

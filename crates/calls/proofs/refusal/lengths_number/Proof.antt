@@ -1,4 +1,4 @@
--- `voice_turn::refusal::lengths_number` meets its contract: each return is one case of the tests. Assumes nothing.
+-- `calls::refusal::lengths_number` meets its contract: each return is one case of the tests. Assumes nothing.
 use mathlib.Core.Bool.{false}
 use mathlib.Core.Logic.{⊎-elim}
 use mathlib.Core.Path.{_≡_, sym, _∙_}
@@ -7,12 +7,12 @@ use Rattle.layout.specs.Places.{layoutNumber}
 use Rattle.window.specs.Window.{windowNumber}
 use Rattle.stems.specs.Memory.{laneLength}
 use Rattle.stems.specs.Call.{Lengths, wrongVoices}
-use Rattle.voice_turn.specs.Turn.{lengthsOf}
-use Rattle.voice_turn.proofs.Numbers.{by-layout, by-window, by-voices, by-mixes, none}
-use Rattle.voice_turn.proofs.Numbers.{wrong-records, wrong-lanes, by-length}
+use Rattle.calls.specs.Begin.{lengthsOf}
+use Rattle.calls.proofs.Numbers.{by-layout, by-window, by-voices, by-mixes, none}
+use Rattle.calls.proofs.Numbers.{wrong-records, wrong-lanes, by-length}
 use borrow.Author.Needs.{needs}
-use Rattle.voice_turn.proofs.refusal.lengths_number.Statement.{statement}
-use Rattle.voice_turn.proofs.refusal.lengths_number.Tie as tie
+use Rattle.calls.proofs.refusal.lengths_number.Statement.{statement}
+use Rattle.calls.proofs.refusal.lengths_number.Tie as tie
 
 abbrev lent : tie.Start → Lengths
 lent s = lengthsOf (s .args .records) (s .args .region0) (s .args .region1) (s .args .window) (s .args .lanes)

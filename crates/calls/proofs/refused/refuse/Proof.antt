@@ -1,9 +1,9 @@
--- `voice_turn::refused::refuse` meets its contract, by what `none` gives. Assumes nothing.
+-- `calls::refused::refuse` meets its contract, by what `none` gives. Assumes nothing.
 use mathlib.Core.Path.{ap}
-use Rattle.voice_turn.specs.Refused.{returned}
+use Rattle.calls.specs.Refused.{returned}
 use borrow.Author.Needs.{needs}
-use Rattle.voice_turn.proofs.refused.refuse.Statement.{statement}
-use Rattle.voice_turn.proofs.refused.refuse.Tie as tie
+use Rattle.calls.proofs.refused.refuse.Statement.{statement}
+use Rattle.calls.proofs.refused.refuse.Tie as tie
 
 none-requires : tie.Need-none-requires
 none-requires c κs = search needs

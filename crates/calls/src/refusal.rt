@@ -11,7 +11,7 @@ ghost use mathlib.Core.Path.{_≡_};
 ghost use Rattle.stems.specs.Call.{lengthsNumber};
 ghost use Rattle.stems.specs.Memory.{laneLength};
 ghost use Rattle.voice.specs.Malformed.{malformed};
-ghost use Rattle.voice_turn.specs.Turn.{lengthsOf};
+ghost use Rattle.calls.specs.Begin.{lengthsOf};
 
 // The most samples of a lane.
 const MOST: usize = 65536;

@@ -3,7 +3,7 @@ ghost use mathlib.Core.List.{[]};
 ghost use mathlib.Core.Path.{_≡_};
 ghost use Prim.Native.Nat.{_<_};
 ghost use Rattle.stems.specs.Memory.{VOICES};
-ghost use Rattle.voice_turn.specs.Refused.{listed, refusedAfter, returned};
+ghost use Rattle.calls.specs.Refused.{listed, refusedAfter, returned};
 
 pub const VOICES: usize = 24;
 

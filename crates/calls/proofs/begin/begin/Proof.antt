@@ -1,11 +1,11 @@
--- `voice_turn::begin::begin` meets its contract: the calls' equations, one put into the next. Assumes nothing.
+-- `calls::begin::begin` meets its contract: the calls' equations, one put into the next. Assumes nothing.
 use mathlib.Core.Path.{_∙_}
 use lib.Dec.{eqb}
 use Rattle.region.specs.Choice.{chosen}
-use Rattle.voice_turn.specs.Turn.{beginning}
+use Rattle.calls.specs.Begin.{beginning}
 use borrow.Author.Needs.{needs}
-use Rattle.voice_turn.proofs.begin.begin.Statement.{statement}
-use Rattle.voice_turn.proofs.begin.begin.Tie as tie
+use Rattle.calls.proofs.begin.begin.Statement.{statement}
+use Rattle.calls.proofs.begin.begin.Tie as tie
 
 silence-requires : tie.Need-silence-requires
 silence-requires c κs = search needs

@@ -1,10 +1,10 @@
--- `voice_turn::refusal::worse` meets its contract, by what came before. Assumes nothing.
+-- `calls::refusal::worse` meets its contract, by what came before. Assumes nothing.
 use mathlib.Core.Path.{sym, _∙_}
 use Rattle.lists.proofs.Bools.{or-yes, or-no}
 use Rattle.stems.specs.Memory.{laneLength}
 use borrow.Author.Needs.{needs}
-use Rattle.voice_turn.proofs.refusal.worse.Statement.{statement}
-use Rattle.voice_turn.proofs.refusal.worse.Tie as tie
+use Rattle.calls.proofs.refusal.worse.Statement.{statement}
+use Rattle.calls.proofs.refusal.worse.Tie as tie
 
 returns : tie.Need-returns
 returns c = sym (or-yes _ (c .if1 .taken))

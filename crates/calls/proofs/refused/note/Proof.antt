@@ -1,8 +1,8 @@
--- `voice_turn::refused::note` meets its contract: 0 adds nothing, and another number is stored behind the last. Assumes nothing.
-use Rattle.voice_turn.proofs.Listed.{after-none, after-one}
+-- `calls::refused::note` meets its contract: 0 adds nothing, and another number is stored behind the last. Assumes nothing.
+use Rattle.calls.proofs.Listed.{after-none, after-one}
 use borrow.Author.Needs.{needs}
-use Rattle.voice_turn.proofs.refused.note.Statement.{statement}
-use Rattle.voice_turn.proofs.refused.note.Tie as tie
+use Rattle.calls.proofs.refused.note.Statement.{statement}
+use Rattle.calls.proofs.refused.note.Tie as tie
 
 returns : tie.Need-returns
 returns c = after-none (c .before .args .voice) (c .before .args .number) (c .before .args .list) (c .if1 .taken)

@@ -4,8 +4,8 @@ use mathlib.Core.List.{List, _++_, map}
 use lib.ListN.{length, set, replicate}
 use Rattle.stems.specs.Call.{Refusal}
 use Rattle.stems.specs.Memory.{VOICES}
-use Rattle.voice_turn.specs.declared.refused.Refused.{Refused}
-use Rattle.voice_turn.specs.declared.refused.Returned.{Returned}
+use Rattle.calls.specs.declared.refused.Refused.{Refused}
+use Rattle.calls.specs.declared.refused.Returned.{Returned}
 
 -- numbers in 24 places, 0 behind them
 unfoldable pub padded : List ℕ → List ℕ

@@ -1,4 +1,4 @@
--- `voice_turn::begin::silence` meets its contract: the loop fills the slice with zeros from the front. Assumes nothing.
+-- `calls::begin::silence` meets its contract: the loop fills the slice with zeros from the front. Assumes nothing.
 use mathlib.Core.Path.{_≡_, sym, _∙_}
 use Prim.Native.Nat.{ℕ, _-_, _<_}
 use native.Mathlib.Omega.{arith}
@@ -8,8 +8,8 @@ use Rattle.lists.proofs.Fill.{Filling, filling-none, filling-more, filling-all}
 use Rattle.numbers.specs.Sizes.{MIXES}
 use Rattle.stems.specs.Call.{noMixes}
 use borrow.Author.Needs.{needs}
-use Rattle.voice_turn.proofs.begin.silence.Statement.{statement}
-use Rattle.voice_turn.proofs.begin.silence.Tie as tie
+use Rattle.calls.proofs.begin.silence.Statement.{statement}
+use Rattle.calls.proofs.begin.silence.Tie as tie
 
 -- the zeros
 all-long : length noMixes ≡ MIXES

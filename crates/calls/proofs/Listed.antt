@@ -7,8 +7,8 @@ use native.Mathlib.Omega.{arith}
 use lib.ListN.{length, set, replicate, length-append, length-map}
 use lib.Seq.{set-at}
 use Rattle.stems.specs.Call.{Refusal, noted}
-use Rattle.voice_turn.specs.declared.refused.Refused.{Refused}
-use Rattle.voice_turn.specs.Refused.{padded, listed, refusedAfter}
+use Rattle.calls.specs.declared.refused.Refused.{Refused}
+use Rattle.calls.specs.Refused.{padded, listed, refusedAfter}
 
 -- a number stored in the first of the places behind
 stored : (ns : List ℕ) (n : ℕ) → length ns < 24 → set (padded ns) (length ns) n ≡ padded (ns ++ (n ∷ []))
