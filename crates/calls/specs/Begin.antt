@@ -22,6 +22,10 @@ lengthsOf records region0 region1 window lanes = record {
   lanes = lanes;
 }
 
+-- 1 to 6, by how much of each thing is lent
+abbrev pub lengthsCode : Fixed → ℕ → ℕ → ℕ → ℕ → ℕ → ℕ → ℕ
+lengthsCode fx records region0 region1 window lanes mixes = lengthsNumber fx (lengthsOf records region0 region1 window lanes) mixes
+
 -- none of 1 to 6 applies to so much lent, with 24 records
 abbrev pub Fitting : Fixed → ℕ → ℕ → ℕ → ℕ → ℕ → Type 0
 Fitting fx region0 region1 window lanes mixes = lengthsNumber fx (lengthsOf VOICES region0 region1 window lanes) mixes ≡ 0

@@ -1,2 +1,3 @@
 pub mod Refused
 pub mod Begin
+pub mod Lent

@@ -6,9 +6,10 @@ use stems::Fixed;
 use voice::malformed::malformed;
 use voice::record::Voice;
 use window::window_number;
-ghost use mathlib.Core.Bool.{_||_};
+ghost use mathlib.Core.Bool.{_||_, cond};
 ghost use mathlib.Core.Path.{_≡_};
-ghost use Rattle.stems.specs.Call.{lengthsNumber};
+ghost use lib.Dec.{ltb};
+ghost use Rattle.stems.specs.Call.{orElse, lengthsNumber};
 ghost use Rattle.stems.specs.Memory.{laneLength};
 ghost use Rattle.voice.specs.Malformed.{malformed};
 ghost use Rattle.calls.specs.Begin.{lengthsOf};
@@ -55,4 +56,17 @@ pub fn worse(bad: bool, v: Voice, lanes: usize) -> bool
         return true;
     }
     malformed(v, lanes / VOICES)
+}
+
+// The lower of 7, where a record is malformed, and 10, where there is no voice of this number; or 0.
+pub fn alone_number(bad: bool, voice: usize) -> u8
+    ensures { λ r. ⌜ r ≡ orElse (cond bad 7 0) (cond (ltb 23 voice) 10 0) ⌝ }
+{
+    if bad {
+        return 7;
+    }
+    if voice >= VOICES {
+        return 10;
+    }
+    0
 }

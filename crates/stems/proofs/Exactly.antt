@@ -1,10 +1,10 @@
--- When each number of the call for all voices is given, in words: the number is that of a list of seven rules, and each rule's test says
--- its sentence. Assumes nothing.
+-- When each number of the two calls is given, in words: that of the call for all voices is the number of a list of seven rules, and each
+-- rule's test says its sentence; 10 comes behind them. Assumes nothing.
 use mathlib.Core.Path.{_≡_, refl, sym, ap, _∙_, subst}
 use mathlib.Core.Bool.{Bool, true, false, not, _||_, cond}
 use mathlib.Core.List.{List, [], _∷_}
 use mathlib.Core.Logic.{_≢_, _⊎_, inl, inr, ⊎-elim, _↔_}
-use Prim.Native.Nat.{ℕ, _+_, _*_, _^_, _≤_, _<_}
+use Prim.Native.Nat.{ℕ, zero, suc, _+_, _*_, _^_, _≤_, _<_}
 use native.Mathlib.Omega.{arith}
 use lib.Dec.{eqb, ltb, lit<}
 use lib.ListN.{length}
@@ -24,9 +24,10 @@ use Rattle.voice.specs.declared.record.Voice.{Voice}
 use Rattle.voice.proofs.Formed.{malformed-exactly}
 use Rattle.stems.specs.declared.Fixed.{Fixed}
 use Rattle.stems.specs.Memory.{Lent, laneLength, recordOf}
-use Rattle.stems.specs.Call.{orElse, wrongVoices, lengths, lengthsNumber, wholeNumber}
+use Rattle.stems.specs.Call.{orElse, wrongVoices, lengths, lengthsNumber, wholeNumber, aloneNumber}
 use Rattle.stems.specs.Exactly.{Applies, region-lengths, place-ends-past, places-share, window-exceeds, records-not-24}
 use Rattle.stems.specs.Exactly.{lanes-not-24-times, mixes-not-1920, record-malformed, WholeExactly}
+use Rattle.stems.specs.Exactly.{AloneApplies, as-for-all, voice-over-23, AloneExactly}
 use Rattle.stems.proofs.Shape.{voices-right}
 
 -- ---- one list of rules
@@ -193,3 +194,67 @@ module _ (fx : Fixed) (x : Lent) where
 
 pub whole-exactly : WholeExactly
 whole-exactly = exactly
+
+-- ---- one voice alone
+
+module _ (fx : Fixed) (v : ℕ) (x : Lent) where
+  abbrev S : ℕ → Type 0
+  S = AloneApplies fx v x
+
+  -- a number of the call for all voices comes first, since it is below 10
+  first-given : (n : ℕ) → 0 < n → LowestGiven (Applies fx x) n → LowestGiven S n
+  first-given n h w = record {
+    none = (λ e. absurd (omega arith), λ nobody. absurd (nobody n (as-for-all (at n h refl .0))));
+    number = λ m k. (λ e. (as-for-all (at m k e .0), λ j l s. before m j (at m k e) l s), λ s. back m k (s .0) (s .1));
+  }
+    where
+      at : (m : ℕ) → 0 < m → n ≡ m → Applies fx x m × ((k : ℕ) → k < m → Applies fx x k → ⊥)
+      at m k e = w .number m k .0 e
+
+      before : (m j : ℕ) → Applies fx x m × ((k : ℕ) → k < m → Applies fx x k → ⊥) → j < m → S j → ⊥
+      before m j a l (as-for-all s) = a .1 j l s
+      before m j a l (voice-over-23 o) = let r = range fx x (a .0) in omega arith
+
+      back : (m : ℕ) → 0 < m → S m → ((k : ℕ) → k < m → S k → ⊥) → n ≡ m
+      back m k (as-for-all s) none-below = w .number m k .1 (s, λ j l a. none-below j l (as-for-all a))
+      back m k (voice-over-23 o) none-below =
+          let a = at n h refl .0 in
+          let r = range fx x a in
+          absurd (none-below n (omega arith) (as-for-all a))
+
+  -- and where there is none the voice's number decides
+  ten-given : (b : Bool) → ltb 23 v ≡ b → LowestGiven (Applies fx x) 0 → LowestGiven S (cond b 10 0)
+  ten-given true e w = record {
+    none = (λ z. absurd (omega arith), λ nobody. absurd (nobody 10 (voice-over-23 (ltb-true 23 v e))));
+    number = λ m k. (
+      λ is. (subst S is (voice-over-23 (ltb-true 23 v e)), λ j l s. before j (omega arith) s),
+      λ s. back m (s .0),
+    );
+  }
+    where
+      before : (j : ℕ) → j < 10 → S j → ⊥
+      before j l (as-for-all s) = w .none .0 refl j s
+      before j l (voice-over-23 o) = omega arith
+
+      back : (m : ℕ) → S m → 10 ≡ m
+      back m (as-for-all s) = absurd (w .none .0 refl m s)
+      back m (voice-over-23 o) = refl
+  ten-given false e w = record {
+    none = (λ z n s. nobody n s, λ h. refl);
+    number = λ m k. (λ is. absurd (omega arith), λ s. absurd (nobody m (s .0)));
+  }
+    where
+      nobody : (n : ℕ) → S n → ⊥
+      nobody n (as-for-all s) = w .none .0 refl n s
+      nobody n (voice-over-23 o) = clash (sym (lt-ltb 23 v o) ∙ e)
+
+  given : (n : ℕ) → LowestGiven (Applies fx x) n → LowestGiven S (orElse n (cond (ltb 23 v) 10 0))
+  given zero w = ten-given (ltb 23 v) refl w
+  given (suc n) w = first-given (suc n) (omega arith) w
+
+  alone : LowestGiven S (aloneNumber fx v x)
+  unfolding aloneNumber
+  alone = given (wholeNumber fx x) (exactly fx x)
+
+pub alone-exactly : AloneExactly
+alone-exactly = alone

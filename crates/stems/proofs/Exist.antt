@@ -1,5 +1,5 @@
--- There are runs from every start, since a call's outcome is a function of what it is lent once an order is fixed; and there is an accepted
--- start, of zero bytes, default voices and silent lanes. Assumes nothing.
+-- There are runs from every start, since what a contract allows is a function of what is lent once an order is fixed; and there is an
+-- accepted start, of zero bytes, default voices and silent lanes. Assumes nothing.
 use mathlib.Core.Path.{_≡_, refl, ap, _∙_}
 use mathlib.Core.Bool.{Bool, true, false}
 use mathlib.Core.List.{List, [], _∷_, Permᴰ·refl}
@@ -16,7 +16,9 @@ use Rattle.voice.proofs.Formed.{formed-not-malformed, default-formed}
 use Rattle.voice.proofs.Range.{in-range-test, default-in-range, sized-test, default-sized}
 use Rattle.stems.specs.declared.Fixed.{Fixed}
 use Rattle.stems.specs.Memory.{Memory, Lent, laneLength}
-use Rattle.stems.specs.Call.{lengths, lengthsNumber, wholeNumber, aloneNumber, Outcome, called, allVoices}
+use Rattle.stems.specs.Call.{lengths, lengthsNumber, wholeNumber, aloneNumber, Outcome, allVoices}
+use Rattle.stems.specs.Whole.{leaves, refusals, AllServed}
+use Rattle.stems.specs.Alone.{leavesAlone, OneServed}
 use Rattle.stems.specs.Stems.{Frame, before, lent, RunsExist}
 use Rattle.stems.proofs.Serve.{Good}
 use Rattle.stems.proofs.Accept.{accepted}
@@ -109,21 +111,47 @@ start-mixes : length (start .mixes) ≡ 1920
 unfolding start
 start-mixes = length-replicate 1920 (pos 0)
 
+-- what the contracts allow, the voices listed in their own order
+all-served : Fixed → Lent → Outcome
+all-served fx x = record {
+  code = wholeNumber fx x;
+  refusals = refusals (wholeNumber fx x) fx x allVoices;
+  left = leaves (wholeNumber fx x) fx x;
+}
+
+one-served : Fixed → ℕ → Lent → Outcome
+one-served fx v x = record {
+  code = aloneNumber fx v x;
+  refusals = refusals (aloneNumber fx v x) fx x (v ∷ []);
+  left = leavesAlone (aloneNumber fx v x) fx v x;
+}
+
+all-allowed : (fx : Fixed) (x : Lent) (o : Outcome) → o ≡ all-served fx x → AllServed fx x o
+unfolding all-served
+all-allowed fx x o e = record {
+  code = ap (λ p. p .code) e;
+  left = ap (λ p. p .left) e;
+  listed = record { order = allVoices; each-once = Permᴰ·refl allVoices; is = ap (λ p. p .refusals) e };
+}
+
+one-allowed : (fx : Fixed) (v : ℕ) (x : Lent) (o : Outcome) → o ≡ one-served fx v x → OneServed fx v x o
+unfolding one-served
+one-allowed fx v x o e = record { code = ap (λ p. p .code) e; left = ap (λ p. p .left) e; listed = ap (λ p. p .refusals) e }
+
 pub runs-exist : RunsExist
 runs-exist = record {
   accepted = (example, start, start-good .typed, accepted example start start-good start-mixes);
   whole = λ fx start frames. (
-    outs (λ x. called (wholeNumber fx x) fx allVoices x) start frames,
+    outs (all-served fx) start frames,
     record {
-      calls = λ k h. record {
-        order = allVoices;
-        each-once = Permᴰ·refl allVoices;
-        is = outs-is (λ x. called (wholeNumber fx x) fx allVoices x) start frames k;
-      };
+      calls = λ k h. all-allowed fx (lent start frames (outs (all-served fx) start frames) k) _ (outs-is (all-served fx) start frames k);
     },
   );
   stem = λ fx v start frames. (
-    outs (λ x. called (aloneNumber fx v x) fx (v ∷ []) x) start frames,
-    record { calls = λ k h. record { is = outs-is (λ x. called (aloneNumber fx v x) fx (v ∷ []) x) start frames k } },
+    outs (one-served fx v) start frames,
+    record {
+      calls = λ k h.
+          one-allowed fx v (lent start frames (outs (one-served fx v) start frames) k) _ (outs-is (one-served fx v) start frames k);
+    },
   );
 }

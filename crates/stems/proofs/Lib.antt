@@ -3,10 +3,12 @@ pub mod Lanes
 pub mod Later
 pub mod Shape
 pub mod Serve
+pub mod Mixes
 pub mod Turns
 pub mod Blocks
 pub mod Accept
 pub mod Whole
+pub mod Alone
 pub mod Listed
 pub mod Exactly
 pub mod Stems

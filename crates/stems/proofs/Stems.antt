@@ -14,13 +14,15 @@ use Rattle.voice_frame.specs.VoiceFrame.{numberOf}
 use Rattle.stems.specs.declared.Fixed.{Fixed}
 use Rattle.stems.specs.Memory.{Memory, Lent, Typed, itsConfiguration, itsStatus, Alike}
 use Rattle.stems.specs.Call.{secondRead, answer, serve, adds, sumOf, serveAll, numberIn, wholeNumber, Outcome, called}
-use Rattle.stems.specs.Call.{AllServed, OneServed}
-use Rattle.stems.specs.Whole.{count}
+use Rattle.stems.specs.Whole.{count, AllServed}
+use Rattle.stems.specs.Alone.{OneServed}
 use Rattle.stems.specs.Stems.{Frame, still, TypedFrame, before, lent, Run, frameGives, frameLeaves, story, scene, gives}
 use Rattle.stems.specs.Stems.{mixValue, Holds, WholeAndStems}
 use Rattle.stems.proofs.Orders.{count-alone, Below, Distinct, sum, Order, order, sums-same}
 use Rattle.stems.proofs.Serve.{Good, Same, same-refl, same-choice, same-answer}
 use Rattle.stems.proofs.Turns.{good-all, Turns, good-turns, once-same, once-number, adds-wrapped, sums-length, sums-at}
+use Rattle.stems.proofs.Whole.{in-some-order}
+use Rattle.stems.proofs.Alone.{serves-one}
 use Rattle.stems.proofs.Accept.{accepted, accepted-one, good, good-recorded, same-recorded}
 
 -- ---- one call that serves v once, and others perhaps
@@ -33,15 +35,16 @@ record Serves (fx : Fixed) (v : ℕ) (x : Lent) (o : Outcome) : Type 0 where
   pub distinct : Distinct voices
   pub is : o ≡ called 0 fx voices x
 
-all-serves : (fx : Fixed) (x : Lent) (o : Outcome) → wholeNumber fx x ≡ 0 → AllServed fx x o → (v : ℕ) → v < 24 → Serves fx v x o
-all-serves fx x o e a v h =
-    let r : Order (a .order) = order (a .each-once) in
+all-serves : (fx : Fixed) (x : Lent) (o : Outcome) → Typed (x .memory) → wholeNumber fx x ≡ 0 → AllServed fx x o
+    → (v : ℕ) → v < 24 → Serves fx v x o
+all-serves fx x o t e a v h =
+    let r : Order (a .listed .order) = order (a .listed .each-once) in
     record {
-      voices = a .order;
+      voices = a .listed .order;
       one = r .one v h;
       below24 = r .below24;
       distinct = r .distinct;
-      is = a .is ∙ ap (λ n. called n fx (a .order) x) e;
+      is = in-some-order fx x t o a ∙ ap (λ n. called n fx (a .listed .order) x) e;
     }
 
 one-serves : (fx : Fixed) (v : ℕ) (x : Lent) (o : Outcome) → v < 24 → wholeNumber fx x ≡ 0 → OneServed fx v x o → Serves fx v x o
@@ -51,7 +54,7 @@ one-serves fx v x o h e a = record {
   one = count-alone v;
   below24 = (h, tt);
   distinct = (refl, tt);
-  is = a .is ∙ ap (λ n. called n fx (v ∷ []) x) (accepted-one fx v x h e);
+  is = serves-one fx v x o a ∙ ap (λ n. called n fx (v ∷ []) x) (accepted-one fx v x h e);
 }
 
 -- ---- a run of such calls, beside v's frames taken in turn
@@ -62,7 +65,8 @@ module _
   module _
       (v : ℕ) (hv : v < 24) (outs : ℕ → Outcome)
       (serves :
-      (k : ℕ) → k < length frames → wholeNumber fx (lent start frames outs k) ≡ 0 → Serves fx v (lent start frames outs k) (outs k)) where
+      (k : ℕ) → k < length frames → Typed (lent start frames outs k .memory) → wholeNumber fx (lent start frames outs k) ≡ 0
+      → Serves fx v (lent start frames outs k) (outs k)) where
     -- what is lent beside what v's frame meets
     record Met (x : Lent) (m : Memory) : Type 0 where
       pub memory : Good fx (x .memory)
@@ -106,10 +110,11 @@ module _
         let m = met k (omega arith) in
         let x = lent start frames outs k in
         write (suc k) h
-        (call x (scene fx v (start .memory) frames k) (outs k) m (serves k (omega arith) (accepted fx x (m .memory) (m .mixes))))
+        (call x (scene fx v (start .memory) frames k) (outs k) m (serves k (omega arith) (m .memory .typed) (accepted fx x (m .memory) (m .mixes))))
 
     served-once : (k : ℕ) → k < length frames → Serves fx v (lent start frames outs k) (outs k)
-    served-once k h = serves k h (accepted fx (lent start frames outs k) (met k h .memory) (met k h .mixes))
+    served-once k h =
+        let m = met k h in serves k h (m .memory .typed) (accepted fx (lent start frames outs k) (m .memory) (m .mixes))
 
     alike : {a b : Memory} → Same (fx .layout) v a b → Alike (fx .layout) v a b
     alike q = record {
@@ -175,9 +180,9 @@ module _
   -- ---- the stem runs
 
   module _ (stem : ℕ → ℕ → Outcome) (S : (v : ℕ) → v < 24 → Run (OneServed fx v) start frames (stem v)) where
-    stem-serves : (v : ℕ) → v < 24 → (k : ℕ) → k < length frames → wholeNumber fx (lent start frames (stem v) k) ≡ 0
-        → Serves fx v (lent start frames (stem v) k) (stem v k)
-    stem-serves v hv k h e = one-serves fx v (lent start frames (stem v) k) (stem v k) hv e (S v hv .calls k h)
+    stem-serves : (v : ℕ) → v < 24 → (k : ℕ) → k < length frames → Typed (lent start frames (stem v) k .memory)
+        → wholeNumber fx (lent start frames (stem v) k) ≡ 0 → Serves fx v (lent start frames (stem v) k) (stem v k)
+    stem-serves v hv k h t e = one-serves fx v (lent start frames (stem v) k) (stem v k) hv e (S v hv .calls k h)
 
     stem-held : (k : ℕ) → k < length frames → (v : ℕ) → v < 24 → Holds fx (start .memory) frames k v (stem v k)
     stem-held k h v hv = held v hv (stem v) (stem-serves v hv) k h
@@ -195,9 +200,9 @@ module _
     -- ---- and the whole run
 
     module _ (whole : ℕ → Outcome) (W : Run (AllServed fx) start frames whole) where
-      whole-serves : (v : ℕ) → v < 24 → (k : ℕ) → k < length frames → wholeNumber fx (lent start frames whole k) ≡ 0
-          → Serves fx v (lent start frames whole k) (whole k)
-      whole-serves v hv k h e = all-serves fx (lent start frames whole k) (whole k) e (W .calls k h) v hv
+      whole-serves : (v : ℕ) → v < 24 → (k : ℕ) → k < length frames → Typed (lent start frames whole k .memory)
+          → wholeNumber fx (lent start frames whole k) ≡ 0 → Serves fx v (lent start frames whole k) (whole k)
+      whole-serves v hv k h t e = all-serves fx (lent start frames whole k) (whole k) t e (W .calls k h) v hv
 
       whole-held : (k : ℕ) → k < length frames → (v : ℕ) → v < 24 → Holds fx (start .memory) frames k v (whole k)
       whole-held k h v hv = held v hv whole (whole-serves v hv) k h
@@ -207,7 +212,7 @@ module _
       sums k h i hi =
           mixes-sum 0 (lit< tt) whole (whole-serves 0 (lit< tt)) k h i hi
           ∙ ap (λ (z : ℤ). wrap32 z)
-          (order (W .calls k h .each-once) .sums (λ v. adds (frameGives fx v (lent start frames whole k .memory)) i)
+          (order (W .calls k h .listed .each-once) .sums (λ v. adds (frameGives fx v (lent start frames whole k .memory)) i)
           ∙ sums-same _ _ 24 (λ v hv. adds-same v hv whole (whole-serves v hv) k h i ∙ sym (stem-adds k h v hv i hi)))
 
 meet : {l : Layout} {v : ℕ} {a b c : Memory} → Alike l v a c → Alike l v b c → Alike l v a b

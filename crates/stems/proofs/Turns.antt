@@ -1,5 +1,4 @@
--- Voices of a list served in turn: what they leave for a voice that stands in the list once, its number, the list of refused voices and
--- the
+-- Voices of a list served in turn: what they leave for a voice that stands in the list once, its number, the list of refused voices and the
 -- mixes. By induction on the list: the voices before it and after it leave what is its own. Assumes nothing.
 use mathlib.Core.Path.{_≡_, refl, sym, ap, ap₂, _∙_, subst}
 use mathlib.Core.Logic.{_≢_, _⊎_, inl, inr}
@@ -10,11 +9,9 @@ use native.Mathlib.Omega.{arith}
 use lib.IntN.{ℤ, pos, _+ℤ_, +ℤ-assoc, +ℤ-idl, +ℤ-idr}
 use lib.ListN.{length, getD, length-replicate, getD-replicate}
 use borrow.Author.Tests.{eq-eqb, ne-eqb}
-use Rattle.lists.proofs.Tabulate.{length-tabulate, getD-tabulate}
 use Rattle.numbers.specs.Wrap.{wrap32}
 use Rattle.numbers.proofs.Modular.{wrap-left}
-use Rattle.mix_voice.specs.Mixed.{summed}
-use Rattle.voice_frame.specs.VoiceFrame.{Answer, served, refused, numberOf, mixedWith, mixesAfter}
+use Rattle.voice_frame.specs.VoiceFrame.{Answer, served, refused, numberOf, mixesAfter}
 use Rattle.voice_laws.proofs.Numbers.{parts-wrap}
 use Rattle.stems.specs.declared.Fixed.{Fixed}
 use Rattle.stems.specs.Memory.{Memory, laneLength}
@@ -24,6 +21,7 @@ use Rattle.stems.specs.Whole.{refusedOf, count}
 use Rattle.stems.proofs.Orders.{count-zero, Once, count-one, stands-first, stands-in, stands-later, stands-other, Below}
 use Rattle.stems.proofs.Orders.{Distinct, sum}
 use Rattle.stems.proofs.Shape.{Fits}
+use Rattle.stems.proofs.Mixes.{mixed-length, mixed-at}
 use Rattle.stems.proofs.Serve.{Good, given-kept, good-serve, serve-lengths, Turn, good-turn}
 use Rattle.stems.proofs.Serve.{Same, same-refl, same-answer, same-serve, other-serve}
 
@@ -188,17 +186,6 @@ module _ (fx : Fixed) (second : Bool) where
   pub adds-wrapped : (w : ℕ) (m : Memory) → w < 24 → Good fx m → (i : ℕ)
       → wrap32 (adds (answer fx second w m) i) ≡ adds (answer fx second w m) i
   adds-wrapped w m h g i = answer-wrapped w m h g i (answer fx second w m) refl
-
-  mixed-length : (x : Answer) (mixes : List ℤ) → length mixes ≡ 1920 → length (mixesAfter x mixes) ≡ 1920
-  unfolding mixedWith
-  mixed-length (served r) mixes e = length-tabulate (λ k. summed (getD mixes k (pos 0)) (getD (r .parts) k (pos 0))) 1920
-  mixed-length (refused n) mixes e = e
-
-  mixed-at : (x : Answer) (mixes : List ℤ) (i : ℕ) → i < 1920 → wrap32 (getD mixes i (pos 0)) ≡ getD mixes i (pos 0)
-      → getD (mixesAfter x mixes) i (pos 0) ≡ wrap32 (getD mixes i (pos 0) +ℤ adds x i)
-  unfolding mixedWith adds
-  mixed-at (refused n) mixes i hi e = sym (ap (λ (z : ℤ). wrap32 z) (+ℤ-idr (getD mixes i (pos 0))) ∙ e)
-  mixed-at (served r) mixes i hi e = getD-tabulate (λ k. summed (getD mixes k (pos 0)) (getD (r .parts) k (pos 0))) 1920 i (pos 0) hi
 
   mixes-length : (vs : List ℕ) (m : Memory) (mixes : List ℤ) → length mixes ≡ 1920 → length (mixesIn fx second vs m mixes) ≡ 1920
   unfolding mixesIn

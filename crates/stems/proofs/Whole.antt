@@ -1,6 +1,6 @@
 -- Every order of serving leaves the same: `every-order`. Each voice's own is what its frame alone leaves there, whichever voices come
 -- before and after it, and memory is made up of the voices' own and of what no voice writes. The list of refused voices is that of their
--- answers in memory as the call finds it, in the call's order: `whole-served`. Assumes nothing.
+-- answers in memory as the call finds it, in the call's order. Assumes nothing.
 use mathlib.Core.Path.{_≡_, refl, sym, ap, _∙_, subst}
 use mathlib.Core.Bool.{Bool, true, false, cond}
 use mathlib.Core.List.{List, List·Permᴰ}
@@ -21,10 +21,10 @@ use Rattle.voice_frame.specs.VoiceFrame.{Answer, served, refused, numberOf, voi
 use Rattle.stems.specs.declared.Fixed.{Fixed}
 use Rattle.stems.specs.Memory.{Memory, Lent, Typed, laneLength, laneOf, recordOf, bytesOf}
 use Rattle.stems.specs.Call.{secondRead, adds, sumOf, put, serve, serveAll, mixesIn, refusalsIn, lengths}
-use Rattle.stems.specs.Call.{lengthsNumber, wholeNumber, noMixes, called, allVoices}
+use Rattle.stems.specs.Call.{lengthsNumber, wholeNumber, noMixes, Outcome, called, allVoices}
 use Rattle.stems.specs.Inner.{LongAs, Long}
 use Rattle.stems.specs.Whole.{gets, regionLeft, memoryLeft, mixesLeft, leaves, refusedOf, refusals}
-use Rattle.stems.specs.Whole.{EveryOrder, ContractIsCall}
+use Rattle.stems.specs.Whole.{AllServed, EveryOrder}
 use Rattle.stems.proofs.Orders.{Order, order}
 use Rattle.stems.proofs.Lanes.{own-lane, lanes-joined}
 use Rattle.stems.proofs.Shape.{Fits, fits, neither}
@@ -168,19 +168,21 @@ module _ (fx : Fixed) (x : Lent) (t : Typed (x .memory)) (vs : List ℕ) (p : Li
   code-is (suc n) = refl
 
 pub every-order : EveryOrder
-every-order fx x t vs p = left-is fx x t vs p (wholeNumber fx x) refl
+every-order fx x t vs p = record {
+  code = code-is fx x t vs p (wholeNumber fx x);
+  left = left-is fx x t vs p (wholeNumber fx x) refl;
+  listed = record { order = vs; each-once = p; is = refusals-are fx x t vs p (wholeNumber fx x) refl };
+}
 
-pub whole-served : ContractIsCall
-whole-served fx x t left rs e listed =
+-- and a call as the contract has it serves in turn, in some order
+pub in-some-order : (fx : Fixed) (x : Lent) → Typed (x .memory) → (o : Outcome) → (a : AllServed fx x o)
+    → o ≡ called (wholeNumber fx x) fx (a .listed .order) x
+in-some-order fx x t o a =
     let n = wholeNumber fx x in
-    let vs = listed .order in
-    let p = listed .each-once in
-    record {
-      order = vs;
-      each-once = p;
-      is = λ i. record {
-        code = sym (code-is fx x t vs p n) i;
-        refusals = (listed .is ∙ sym (refusals-are fx x t vs p n refl)) i;
-        left = (e ∙ sym (left-is fx x t vs p n refl)) i;
-      };
+    let vs = a .listed .order in
+    let p = a .listed .each-once in
+    λ i. record {
+      code = (a .code ∙ sym (code-is fx x t vs p n)) i;
+      refusals = (a .listed .is ∙ sym (refusals-are fx x t vs p n refl)) i;
+      left = (a .left ∙ sym (left-is fx x t vs p n refl)) i;
     }

@@ -1,5 +1,5 @@
--- What the two calls give back and leave: the call for all voices, in some order, and the call for one voice alone.
--- Assumes nothing: these are definitions.
+-- One voice's frame in memory, voices served in turn, and the numbers of the two calls. What a call for all voices leaves, whatever its
+-- order, is in Whole.antt, and what a call for one voice alone leaves in Alone.antt. Assumes nothing: these are definitions.
 use mathlib.Core.Path.{_≡_}
 use Prim.Native.Nat.{ℕ, zero, suc, _*_}
 use mathlib.Core.Bool.{Bool, true, false, not, _||_, cond}
@@ -148,7 +148,7 @@ wholeNumber fx x =
 unfoldable pub aloneNumber : Fixed → ℕ → Lent → ℕ
 aloneNumber fx v x = orElse (wholeNumber fx x) (cond (ltb 23 v) 10 0)
 
--- ---- the two calls
+-- ---- a call that serves voices in turn
 
 -- what a call gives back, and what it leaves
 pub record Outcome : Type 0 where
@@ -180,13 +180,3 @@ upTo (suc n) = upTo n ++ (n ∷ [])
 -- the voices
 abbrev pub allVoices : List ℕ
 allVoices = upTo VOICES
-
--- The call for all voices: "A call may serve in any order that takes each voice once, and the list follows that order"
-pub record AllServed (fx : Fixed) (x : Lent) (o : Outcome) : Type 0 where
-  pub order : List ℕ
-  pub each-once : List·Permᴰ order allVoices
-  pub is : o ≡ called (wholeNumber fx x) fx order x
-
--- The call for voice v alone
-pub record OneServed (fx : Fixed) (v : ℕ) (x : Lent) (o : Outcome) : Type 0 where
-  pub is : o ≡ called (aloneNumber fx v x) fx (v ∷ []) x

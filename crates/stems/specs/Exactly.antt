@@ -1,5 +1,5 @@
--- What the numbers of the call for all voices mean: each is given exactly if its line of document 01's table holds, and none above it.
--- Assumes nothing: these are statements; `whole-exactly` of proofs/Exactly.antt proves it of every call.
+-- What the numbers of the two calls mean: each is given exactly if its line of document 01's table holds, and none above it.
+-- Assumes nothing: these are statements; `whole-exactly` and `alone-exactly` of proofs/Exactly.antt prove them of every call.
 use Prim.Native.Nat.{ℕ, _+_, _*_, _^_, _≤_, _<_}
 use mathlib.Core.Logic.{_≢_}
 use lib.ListN.{length}
@@ -9,7 +9,7 @@ use Rattle.layout.specs.Exactly.{LengthsWrong, EndsPast, ShareByte}
 use Rattle.voice.specs.Malformed.{Malformed}
 use Rattle.stems.specs.declared.Fixed.{Fixed}
 use Rattle.stems.specs.Memory.{VOICES, Lent, laneLength, recordOf}
-use Rattle.stems.specs.Call.{wholeNumber}
+use Rattle.stems.specs.Call.{wholeNumber, aloneNumber}
 
 -- "Given exactly if": the sentences of 1 to 7, each with its number
 pub data Applies (fx : Fixed) (x : Lent) : ℕ → Type 0 where
@@ -34,3 +34,12 @@ pub data Applies (fx : Fixed) (x : Lent) : ℕ → Type 0 where
 -- "The lowest number that applies is returned", and 0 exactly if "no whole-call number applies"
 abbrev pub WholeExactly : Type 0
 WholeExactly = (fx : Fixed) (x : Lent) → LowestGiven (Applies fx x) (wholeNumber fx x)
+
+-- "one voice alone also 10"
+pub data AloneApplies (fx : Fixed) (v : ℕ) (x : Lent) : ℕ → Type 0 where
+  as-for-all : {n : ℕ} → Applies fx x n → AloneApplies fx v x n
+  -- "voice number over 23"
+  voice-over-23 : 23 < v → AloneApplies fx v x 10
+
+abbrev pub AloneExactly : Type 0
+AloneExactly = (fx : Fixed) (v : ℕ) (x : Lent) → LowestGiven (AloneApplies fx v x) (aloneNumber fx v x)

@@ -1,5 +1,5 @@
--- Whole run and stems: `WholeAndStems` is the claim, and `whole-and-stems` of proofs/Stems.antt proves it. The runs are made of the calls
--- of Call.antt: the claim holds of every outcome that these may give, in whichever order each took the voices.
+-- Whole run and stems: `WholeAndStems` is the claim, and `whole-and-stems` of proofs/Stems.antt proves it. The runs are made of calls as
+-- the two contracts have them (Whole.antt, Alone.antt): the claim holds of every outcome that these allow, whatever order a call took.
 -- Assumes nothing: these are definitions and statements.
 use mathlib.Core.Path.{_≡_}
 use Prim.Native.Nat.{ℕ, zero, suc, _<_}
@@ -14,7 +14,9 @@ use Rattle.voice.specs.Range.{isByte, signed}
 use Rattle.voice_frame.specs.VoiceFrame.{Answer, numberOf}
 use Rattle.stems.specs.declared.Fixed.{Fixed}
 use Rattle.stems.specs.Memory.{VOICES, Memory, Lent, Typed, Alike}
-use Rattle.stems.specs.Call.{secondRead, answer, serve, adds, numberIn, wholeNumber, Outcome, AllServed, OneServed, sumOf}
+use Rattle.stems.specs.Call.{secondRead, answer, serve, adds, numberIn, wholeNumber, Outcome, sumOf}
+use Rattle.stems.specs.Whole.{AllServed}
+use Rattle.stems.specs.Alone.{OneServed}
 
 -- ---- "the recording's writes, inside regions, window and lanes"
 

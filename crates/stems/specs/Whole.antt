@@ -1,6 +1,6 @@
 -- What a call for all voices leaves, whatever the order in which it takes them: each voice's answer in memory as the call finds it, put
--- where that voice's own lies. Assumes nothing: these are definitions and statements; `every-order` and `whole-served` of proofs/Whole.antt
--- and `listed-once` of proofs/Listed.antt prove the three.
+-- where that voice's own lies. Assumes nothing: these are definitions and statements; `every-order` of proofs/Whole.antt and `listed-once` of
+-- proofs/Listed.antt prove the two.
 use mathlib.Core.Path.{_≡_}
 use Prim.Native.Nat.{ℕ, zero, suc, _+_}
 use mathlib.Core.Bool.{Bool, true, false, not, _&&_, cond}
@@ -15,7 +15,7 @@ use Rattle.numbers.specs.Wrap.{wrap32}
 use Rattle.voice_frame.specs.VoiceFrame.{Answer, numberOf, voiceAfter, laneAfter, configurationAfter, statusAfter}
 use Rattle.stems.specs.declared.Fixed.{Fixed}
 use Rattle.stems.specs.Memory.{VOICES, Memory, Lent, Typed, laneOf, recordOf, itsConfiguration, itsStatus, bytesOf}
-use Rattle.stems.specs.Call.{secondRead, answer, adds, Refusal, noted, wholeNumber, called, allVoices, AllServed, sumOf}
+use Rattle.stems.specs.Call.{secondRead, answer, adds, Refusal, noted, wholeNumber, Outcome, called, allVoices, sumOf}
 
 module _ (fx : Fixed) (m : Memory) where
   -- what voice v is answered: "served, modules 2 to 6 give v's record, lane, configuration and status bytes and what it adds", and
@@ -82,15 +82,14 @@ ListedOnce =
     (fx : Fixed) (x : Lent) (rs : List Refusal) → Listed fx x rs
     → (v : ℕ) → count v (map (λ r. r .voice) rs) ≡ cond (isRefused (wholeNumber fx x) fx x v) 1 0
 
--- Every order of serving leaves the same memory and mixes.
+-- The call for all voices, as its contract has it: its number, what it leaves, and the list of refused voices.
+pub record AllServed (fx : Fixed) (x : Lent) (o : Outcome) : Type 0 where
+  pub code : o .code ≡ wholeNumber fx x
+  pub left : o .left ≡ leaves (wholeNumber fx x) fx x
+  pub listed : Listed fx x (o .refusals)
+
+-- Every order of serving is such a call: it leaves the same memory and mixes, and its list is that of the order.
 abbrev pub EveryOrder : Type 0
 EveryOrder =
     (fx : Fixed) (x : Lent) → Typed (x .memory) → (order : List ℕ) → List·Permᴰ order allVoices
-    → called (wholeNumber fx x) fx order x .left ≡ leaves (wholeNumber fx x) fx x
-
--- What the contract of the call for all voices says is what the theorem on the whole run and the stems asks of such a call: a call that
--- gives the number, leaves what is to be left and lists the refused voices, as above, is one of the calls of `AllServed`.
-abbrev pub ContractIsCall : Type 0
-ContractIsCall =
-    (fx : Fixed) (x : Lent) → Typed (x .memory) → (left : Lent) (rs : List Refusal) → left ≡ leaves (wholeNumber fx x) fx x
-    → Listed fx x rs → AllServed fx x (record { code = wholeNumber fx x; refusals = rs; left = left })
+    → AllServed fx x (called (wholeNumber fx x) fx order x)

@@ -1,20 +1,16 @@
 -- The call's contract on each of its three ways: refused by its lengths, refused for a record, and served, where the loop's order leaves
--- what
--- every order leaves. Assumes nothing.
+-- what every order leaves. Assumes nothing.
 use mathlib.Core.Path.{_≡_, refl, sym, ap, _∙_, subst}
 use mathlib.Core.Bool.{Bool, true, false, not, cond}
 use mathlib.Core.List.{List, [], Permᴰ·refl}
 use Prim.Native.Nat.{ℕ, zero, suc, _<_, _≤_}
 use native.Mathlib.Omega.{arith}
-use lib.Dec.{T, T-not, eqb, eqb-refl, lit<}
+use lib.Dec.{T, eqb}
 use lib.IntN.{ℤ}
-use lib.ListN.{length, length-replicate}
+use lib.ListN.{length}
 use Rattle.lists.specs.Some.{some}
-use Rattle.lists.proofs.Some.{none-each}
-use Rattle.voice.specs.Blank.{defaultVoice}
 use Rattle.voice.specs.Malformed.{malformed}
 use Rattle.voice.specs.declared.record.Voice.{Voice}
-use Rattle.voice.proofs.Formed.{not-malformed-formed}
 use Rattle.stems.specs.Call.{Refusal, secondRead, serveAll, refusalsIn, lengths, lengthsNumber, orElse, wholeNumber, noMixes, called}
 use Rattle.stems.specs.Call.{allVoices}
 use Rattle.stems.specs.Memory.{Memory, Lent, laneLength}
@@ -22,21 +18,20 @@ use Rattle.stems.specs.Inner.{Long}
 use Rattle.stems.specs.Whole.{Listed, leaves, refusals}
 use Rattle.stems.specs.declared.Fixed.{Fixed}
 use Rattle.stems.proofs.Orders.{order}
-use Rattle.stems.proofs.Shape.{Fits, fits}
 use Rattle.stems.proofs.Turns.{all-waiting, turns-long}
 use Rattle.stems.proofs.Whole.{every-order-long, refusals-order}
 use Rattle.calls.specs.Refused.{listed, returned}
-use Rattle.calls.specs.Begin.{Fitting, Counted, beginning}
+use Rattle.calls.specs.Begin.{Fitting, beginning, lengthsCode}
+use Rattle.calls.specs.Lent.{lent}
 use Rattle.calls.specs.declared.refused.Refused.{Refused}
 use Rattle.calls.specs.declared.refused.Returned.{Returned}
 use Rattle.calls.specs.declared.begin.Turn.{Turn}
-use Rattle.voices.specs.Inner.{State, AllFormed, LongAt, lengthsCode}
-use Rattle.voices.specs.Tick.{lent, left, RefusedBy}
-use Rattle.voices.proofs.Turns.{memoryOf, st, after, in-turn}
-
-first-not-0 : (n next : ℕ) → (n ≡ 0 → ⊥) → orElse n next ≡ n
-first-not-0 zero next h = absurd (h refl)
-first-not-0 (suc n) next h = refl
+use Rattle.turns.specs.Turns.{State, LongAt}
+use Rattle.turns.proofs.Begun.{first-not-0, some-number, each-formed, room, all-voices, still-fitting}
+use Rattle.turns.proofs.Turns.{memoryOf}
+use Rattle.voices.specs.Inner.{AllFormed}
+use Rattle.voices.specs.Tick.{left, RefusedBy}
+use Rattle.voices.proofs.Turns.{st, after, in-turn}
 
 stays : (n : ℕ) (fx : Fixed) (x : Lent) → (n ≡ 0 → ⊥) → leaves n fx x ≡ x
 unfolding leaves
@@ -91,9 +86,6 @@ module _ (fx : Fixed) (r0 r1 w : List ℕ) (ys : List Voice) (lanes mixes : List
         },
       )
 
-  some-number : (n : ℕ) → T (not (eqb n 0)) → n ≡ 0 → ⊥
-  some-number n h e = T-not (eqb n 0) h (subst (λ (k : ℕ). T (eqb k 0)) (sym e) (eqb-refl 0))
-
   pub refused-call : (r : Returned) (k : ℕ) → k ≡ code → T (not (eqb k 0)) → r ≡ returned k (listed []) → Ensured r ys r0 r1 lanes mixes
   refused-call r k is held e =
       let not0 : k ≡ 0 → ⊥ = some-number k held in
@@ -108,36 +100,15 @@ module _ (fx : Fixed) (r0 r1 w : List ℕ) (ys : List Voice) (lanes mixes : List
   -- ---- served
 
   module _ (zero-is : code ≡ 0) where
-    room : Fits fx (lengths (x .memory)) × (length mixes ≡ 1920)
-    unfolding lengths
-    room = fits fx (lengths (x .memory)) (length mixes) zero-is
-
-    all-voices : length ys ≡ 24
-    unfolding lengths
-    all-voices = room .0 .records
-
-    pub begins : Counted fx (length r0) (length r1) × (length mixes ≡ 1920)
-    unfolding lengths
-    begins = (
-      record {
-        in0 = omega (arith, room .0 .layout .within 3 (lit< tt));
-        in1 = omega (arith, room .0 .layout .within 3 (lit< tt), room .0 .layout .same);
-      },
-      room .1,
-    )
+    abbrev all-voices-lent : length ys ≡ 24
+    all-voices-lent = all-voices fx r0 r1 w ys lanes mixes zero-is
 
     pub goes-on : bad ≡ false → (fresh : List ℤ) → length fresh ≡ length mixes
         → (length ys ≡ 24) × (beginning fx r0 r1 .refused .count ≡ 0) × AllFormed (laneLength (length lanes)) ys
         × Fitting fx (length r0) (length r1) (length w) (length lanes) (length fresh)
     unfolding beginning listed
-    goes-on good fresh long = (
-      all-voices,
-      refl,
-      λ j h. not-malformed-formed (laneLength (length lanes)) _ (none-each (malformed (laneLength (length lanes))) ys defaultVoice good j
-          h),
-      subst (λ (n : ℕ). lengthsCode fx n (length r0) (length r1) (length w) (length lanes) (length fresh) ≡ 0) all-voices
-          (subst (λ (n : ℕ). lengthsCode fx (length ys) (length r0) (length r1) (length w) (length lanes) n ≡ 0) (sym long) zero-is),
-    )
+    goes-on good fresh long =
+        (all-voices-lent, refl, each-formed ys (length lanes) good, still-fitting fx r0 r1 w ys lanes mixes zero-is fresh long)
 
     module _ (good : bad ≡ false) (long : (j : ℕ) → j < length ys → LongAt fx w j (st fx w ys r0 r1 lanes j)) where
       abbrev second : Bool
@@ -150,7 +121,7 @@ module _ (fx : Fixed) (r0 r1 w : List ℕ) (ys : List Voice) (lanes mixes : List
       all-long v h =
           let o = order (Permᴰ·refl allVoices) in
           turns-long fx second allVoices (x .memory) (x .memory)
-          (in-turn fx w ys r0 r1 lanes (room .0) (λ j k. long j (subst (λ (n : ℕ). j < n) (sym all-voices) k)) 24 (omega arith))
+          (in-turn fx w ys r0 r1 lanes (room fx r0 r1 w ys lanes mixes zero-is .0) (λ j k. long j (subst (λ (n : ℕ). j < n) (sym all-voices-lent) k)) 24 (omega arith))
           (o .distinct) (all-waiting fx second allVoices (x .memory)) v h (omega (arith, o .one v h))
 
       number-0 : wholeNumber fx x ≡ 0
@@ -164,13 +135,13 @@ module _ (fx : Fixed) (r0 r1 w : List ℕ) (ys : List Voice) (lanes mixes : List
       memory-is : memoryOf fx w last ≡ left fx x .memory
       unfolding called
       memory-is =
-          ap (λ (n : ℕ). memoryOf fx w (st fx w ys r0 r1 lanes n)) all-voices
+          ap (λ (n : ℕ). memoryOf fx w (st fx w ys r0 r1 lanes n)) all-voices-lent
           ∙ after fx w ys r0 r1 lanes 24 (omega arith) .memory ∙ ap (λ (y : Lent). y .memory) left-is
 
       mixes-are : last .mixes ≡ left fx x .mixes
       unfolding called
       mixes-are =
-          ap (λ (n : ℕ). st fx w ys r0 r1 lanes n .mixes) all-voices
+          ap (λ (n : ℕ). st fx w ys r0 r1 lanes n .mixes) all-voices-lent
           ∙ after fx w ys r0 r1 lanes 24 (omega arith) .mixes ∙ ap (λ (y : Lent). y .mixes) left-is
 
       refused-are : RefusedBy fx x (last .turn .refused)
@@ -178,7 +149,7 @@ module _ (fx : Fixed) (r0 r1 w : List ℕ) (ys : List Voice) (lanes mixes : List
       refused-are = record {
         list = refusalsIn fx second allVoices (x .memory);
         is =
-            ap (λ (n : ℕ). st fx w ys r0 r1 lanes n .turn .refused) all-voices
+            ap (λ (n : ℕ). st fx w ys r0 r1 lanes n .turn .refused) all-voices-lent
             ∙ ap (λ (t : Turn). t .refused) (after fx w ys r0 r1 lanes 24 (omega arith) .turn);
         holds = record {
           order = allVoices;

@@ -1,22 +1,15 @@
--- What the loops over the records know after i of them: the places of the refused, the records not yet served, and the lengths. By what
--- one
+-- What the loop over the records knows after i of them: the places of the refused, the records not yet served, and the lengths. By what one
 -- turn changes. Assumes nothing.
-use mathlib.Core.Path.{_≡_, refl, sym, ap, _∙_, subst}
-use mathlib.Core.Bool.{Bool, true, false, not, _||_}
-use mathlib.Core.List.{List, [], _∷_}
-use mathlib.Core.Logic.{_⊎_, inl, inr}
+use mathlib.Core.Path.{_≡_, sym, _∙_, subst}
+use mathlib.Core.List.{List}
 use Prim.Native.Nat.{ℕ, zero, suc, _+_, _<_, _≤_}
 use native.Mathlib.Decide.{decLt}
-use native.Mathlib.Numerals.{add-one}
 use native.Mathlib.Omega.{arith}
-use lib.Dec.{T, eqb, eqb→eq}
 use lib.IntN.{ℤ}
-use lib.ListN.{length, set, getD, take}
-use lib.Seq.{getD-set-other, take-all}
-use Rattle.lists.specs.Some.{some}
-use Rattle.lists.proofs.Some.{some-more}
+use lib.ListN.{length, set, getD}
+use lib.Seq.{getD-set-other}
 use Rattle.voice.specs.Blank.{defaultVoice}
-use Rattle.voice.specs.Malformed.{malformed, WellFormed}
+use Rattle.voice.specs.Malformed.{WellFormed}
 use Rattle.voice.specs.declared.record.Voice.{Voice}
 use Rattle.stems.specs.Memory.{laneLength}
 use Rattle.stems.specs.declared.Fixed.{Fixed}
@@ -26,7 +19,7 @@ use Rattle.calls.specs.Begin.{Fitting}
 use Rattle.voice_turn.specs.Turn.{answered, takenBy}
 use Rattle.calls.specs.declared.refused.Refused.{Refused}
 use Rattle.calls.specs.declared.begin.Turn.{Turn}
-use Rattle.voices.specs.Inner.{AllFormed, anyUpTo}
+use Rattle.voices.specs.Inner.{AllFormed}
 
 -- a turn notes one voice at the most
 noted-one : (v n : ℕ) (list : Refused) → refusedAfter v n list .count ≤ list .count + 1
@@ -71,33 +64,3 @@ upto-next P i h p j k = go (decLt j i)
     go : Dec (j < i) → P j
     go (yes l) = h j l
     go (no l) = subst P (omega arith) p
-
--- what the loop over the records finds is whether one of them is malformed
-any-of : (lanes i : ℕ) (ys : List Voice) → i ≤ length ys → anyUpTo lanes i ys ≡ some (malformed (laneLength lanes)) (take i ys)
-any-of lanes zero ys h = refl
-any-of lanes (suc i) ys h =
-    let test = malformed (laneLength lanes) in
-    ap (λ (b : Bool). b || test (getD ys i defaultVoice)) (any-of lanes i ys (omega arith))
-    ∙ sym (some-more test ys i defaultVoice h) ∙ ap (λ (k : ℕ). some test (take k ys)) (add-one i)
-
-pub any-is : (lanes : ℕ) (ys : List Voice) → anyUpTo lanes (length ys) ys ≡ some (malformed (laneLength lanes)) ys
-any-is lanes ys = any-of lanes (length ys) ys (omega arith) ∙ ap (some (malformed (laneLength lanes))) (take-all (length ys) ys (omega
-    arith))
-
--- ---- the tests of the call
-
-pub is-true : (t : Bool) → T t → t ≡ true
-is-true true h = refl
-is-true false h = absurd h
-
-pub is-false : (t : Bool) → T (not t) → t ≡ false
-is-false true h = absurd h
-is-false false h = refl
-
-not-not : (t : Bool) → T (not (not t)) → T t
-not-not true h = h
-not-not false h = h
-
--- what the test `number != 0` says where it fails
-pub no-refusal : (n : ℕ) → T (not (not (eqb n 0))) → n ≡ 0
-no-refusal n h = eqb→eq n 0 (not-not (eqb n 0) h)

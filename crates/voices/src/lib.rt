@@ -1,67 +1,27 @@
 // The call for all voices. `tick` is lent the records, the two regions, the window, the lanes and the mixes, for any values and lengths, and
 // is handed the layout and the window's base. It refuses as a whole with the lowest of 1 to 7, and then writes nothing. Else it chooses the
 // region to be read, sets the mixes to 0 and gives each voice its turn; a voice that is refused, by 20 or 21, keeps what is its own, adds
-// nothing and goes into the list that the call gives back. Here is only what goes over the slice of records: each record is taken out,
-// handed by value to `voice_turn` and put back. That these functions meet their contracts is written by tools/walks.
+// nothing and goes into the list that the call gives back. That these functions meet their contracts is written by tools/walks.
 use calls::begin::Turn;
 use calls::begin::begin;
 use calls::begin::finish;
 use calls::refusal::lengths_number;
-use calls::refusal::worse;
 use calls::refused::Returned;
 use calls::refused::refuse;
 use stems::Fixed;
+use turns::any_malformed;
+use turns::serve_at;
 use voice::record::Voice;
-use voice_turn::turn::take_turn;
 ghost use mathlib.Core.Path.{_≡_};
-ghost use Prim.Native.Nat.{ℕ, _<_, _≤_};
-ghost use lib.ListN.{length, set, getD};
-ghost use Rattle.lists.specs.Some.{some};
+ghost use Prim.Native.Nat.{ℕ, _<_};
+ghost use lib.ListN.{length};
 ghost use Rattle.stems.specs.Call.{wholeNumber};
 ghost use Rattle.stems.specs.Memory.{VOICES, laneLength};
-ghost use Rattle.stems.specs.Inner.{LongAs};
-ghost use Rattle.voice.specs.Blank.{defaultVoice};
-ghost use Rattle.voice.specs.Malformed.{malformed, WellFormed};
 ghost use Rattle.calls.specs.Begin.{Fitting};
-ghost use Rattle.voice_turn.specs.Turn.{answerTo, takenBy, region0By, region1By, lanesBy, mixesBy};
-ghost use Rattle.voices.specs.Inner.{LongAt, AllFormed, ticked};
-ghost use Rattle.voices.specs.Tick.{lent, left, RefusedBy};
-
-// Gives voice i its turn.
-fn serve_at(
-    voices: &mut [Voice],
-    i: usize,
-    turn: Turn,
-    fixed: Fixed,
-    region0: &mut [u8],
-    region1: &mut [u8],
-    window: &[u8],
-    lanes: &mut [i16],
-    mixes: &mut [i32],
-) -> Turn
-    requires { ⌜ (i < length (now voices)) × (i < VOICES) × (turn .refused .count ≤ i)
-        × WellFormed (laneLength (length (now lanes))) (getD (now voices) i defaultVoice)
-        × Fitting fixed (length (now region0)) (length (now region1)) (length (now window)) (length (now lanes)) (length (now mixes)) ⌝ }
-    ensures { λ r. ⌜ (r ≡ takenBy (getD (now (voices .entry)) i defaultVoice) i turn fixed
-        (now (region0 .entry)) (now (region1 .entry)) (now (window .entry)) (now (lanes .entry)) (now (mixes .entry)) .turn)
-        × (now (voices .exit) ≡ set (now (voices .entry)) i (takenBy (getD (now (voices .entry)) i defaultVoice) i turn fixed
-        (now (region0 .entry)) (now (region1 .entry)) (now (window .entry)) (now (lanes .entry)) (now (mixes .entry)) .v))
-        × (now (region0 .exit) ≡ region0By (getD (now (voices .entry)) i defaultVoice) i turn fixed
-        (now (region0 .entry)) (now (region1 .entry)) (now (window .entry)) (now (lanes .entry)) (now (mixes .entry)))
-        × (now (region1 .exit) ≡ region1By (getD (now (voices .entry)) i defaultVoice) i turn fixed
-        (now (region0 .entry)) (now (region1 .entry)) (now (window .entry)) (now (lanes .entry)) (now (mixes .entry)))
-        × (now (lanes .exit) ≡ lanesBy (getD (now (voices .entry)) i defaultVoice) i turn fixed
-        (now (region0 .entry)) (now (region1 .entry)) (now (window .entry)) (now (lanes .entry)) (now (mixes .entry)))
-        × (now (mixes .exit) ≡ mixesBy (getD (now (voices .entry)) i defaultVoice) i turn fixed
-        (now (region0 .entry)) (now (region1 .entry)) (now (window .entry)) (now (lanes .entry)) (now (mixes .entry)))
-        × LongAs (laneLength (length (now (lanes .entry)))) (answerTo fixed (turn .second) i (getD (now (voices .entry)) i defaultVoice)
-        (now (region0 .entry)) (now (region1 .entry)) (now (window .entry)) (now (lanes .entry))) ⌝ }
-{
-    let v = voices[i];
-    let out = take_turn(v, i, turn, fixed, region0, region1, window, lanes, mixes);
-    voices[i] = out.v;
-    out.turn
-}
+ghost use Rattle.calls.specs.Lent.{lent};
+ghost use Rattle.turns.specs.Turns.{LongAt};
+ghost use Rattle.voices.specs.Inner.{AllFormed, ticked};
+ghost use Rattle.voices.specs.Tick.{left, RefusedBy};
 
 // Gives each voice its turn, voice 0 first.
 fn serve_all(
@@ -109,20 +69,6 @@ fn serve_all(
         i += 1;
     }
     turn
-}
-
-// Whether a record is malformed, for lanes of so many samples together.
-fn any_malformed(voices: &[Voice], lanes: usize) -> bool
-    ensures { λ r. ⌜ r ≡ some (malformed (laneLength lanes)) (now (voices .entry)) ⌝ }
-{
-    let mut bad = false;
-    let mut i = 0;
-    while i < voices.len() {
-        let v = voices[i];
-        bad = worse(bad, v, lanes);
-        i += 1;
-    }
-    bad
 }
 
 // Serves one frame of all voices. `fixed` is what every call of a run is handed alike.

@@ -62,7 +62,7 @@ use denote.Triple.Walked.{goes-none-slice, goes-gave-slice, Walks, ends-at, walk
 use denote.Exit.{yes}
 use Rattle.voice.specs.declared.record.Voice.{Voice}
 use Rattle.voice_turn.specs.declared.turn.Taken.{Taken}
-use Rattle.voices.specs.Inner.{State, LongAt, AllFormed, serve-one, ticked}
+use Rattle.voices.specs.Inner.{AllFormed, ticked}
 use Rattle.voice.proofs.record.Voice as T
 use Rattle.voice.proofs.record.Voice.Laws as T′
 use Rattle.stems.specs.Memory.{VOICES, laneLength}
@@ -71,6 +71,7 @@ use Rattle.voice.specs.Malformed.{WellFormed}
 use Rattle.stems.specs.Inner.{LongAs}
 use Rattle.calls.specs.Begin.{Fitting}
 use Rattle.voice_turn.specs.Turn.{answerTo, takenBy, region0By, region1By, lanesBy, mixesBy}
+use Rattle.turns.specs.Turns.{State, LongAt, serve-one}
 use Rattle.voices.proofs.Steps.{counted, formed-now, fitting-now, others-stay, upto-next}
 use Rattle.stems.specs.declared.Fixed.{Fixed}
 use Rattle.stems.proofs.Fixed as Fixed-T
@@ -78,12 +79,12 @@ use Rattle.stems.proofs.Fixed.Laws as Fixed-L
 use Rattle.calls.specs.declared.begin.Turn.{Turn}
 use Rattle.calls.proofs.begin.Turn as Turn-T
 use Rattle.calls.proofs.begin.Turn.Laws as Turn-L
-use Rattle.voices.proofs.Again.{LentAgain, lends-again, comes-back}
-use Rattle.voices.proofs.While.{tests}
-use Rattle.voices.proofs.serve_at as serve-at
-use Rattle.voices.proofs.serve_at.Symbol as serve-at-def
-use Rattle.voices.proofs.serve_at.Symbol.{name as #voices·serve-at}
-use Rattle.voices.proofs.serve_at.Met as serve-at-thm
+use Rattle.turns.proofs.Again.{LentAgain, lends-again, comes-back}
+use Rattle.turns.proofs.While.{tests}
+use Rattle.turns.proofs.serve_at as serve-at
+use Rattle.turns.proofs.serve_at.Symbol as serve-at-def
+use Rattle.turns.proofs.serve_at.Symbol.{name as #voices·serve-at}
+use Rattle.turns.proofs.serve_at.Met as serve-at-thm
 use Rattle.voices.proofs.serve_all.Key.{name as #voices·serve-all}
 use Rattle.voices.proofs.serve_all as f
 use Rattle.voices.proofs.serve_all.Statement as stated
@@ -1062,4 +1063,4 @@ serve-all-spec 𝓤 H 𝓜 𝓖 𝓡 =
     (tables 𝓤 H 𝓜 𝓡 code.env .C) (tables 𝓤 H 𝓜 𝓡 code.env .Λ) #voices·serve-all code.function (code.unfolded 𝓤 H 𝓜 𝓡)
     (serve-all-meets 𝓤 H (𝓖 .A) (givenOf 𝓤 H 𝓜 𝓖) (𝓜 .mem) (𝓡 .run) (tablesOf 𝓤 H 𝓜 (tables 𝓤 H 𝓜 𝓡 code.env))
     (cited 𝓤 H (ServeAt 𝓤 H (𝓖 .A) (𝓜 .mem) (𝓡 .run)) 𝓜 𝓡 code.env #voices·serve-at serve-at-def.routine
-    code.calls-voices·serve-at (serve-at-thm.met 𝓤 H 𝓜 𝓖 𝓡)))
+    code.calls-turns·serve-at (serve-at-thm.met 𝓤 H 𝓜 𝓖 𝓡)))

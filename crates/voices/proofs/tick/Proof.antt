@@ -1,6 +1,6 @@
 -- `voices::tick` meets its contract: a walk of its MIR, by hand. It has two branches, each with an early return. The scan is lent
--- the slice as shared, and the tick each `&mut` again, for lifetimes that are made for the call; so at every exit each `&mut` is
--- still owned (`stay-slice`).
+-- the slice as shared, and `serve_all` each `&mut` again, for lifetimes that are made for the call; so at every exit each `&mut`
+-- is still owned (`stay-slice`).
 -- Assumes nothing.
 use mathlib.Core.Path.{_≡_, refl, sym, _∙_, ap, subst}
 use Prim.Native.Nat.{ℕ, zero, suc, _<_, _≤_, _^_, _+_, _*_, _-_, zero-le}
@@ -40,7 +40,7 @@ use denote.RattleType.{RattleType, owns}
 use denote.Shadow.{pureI}
 use denote.Laws.{Is, shows}
 use denote.Memory.{mem, pointee}
-use denote.Plain.{Boolean, uint-makes, uint-vals, uint-tells, uint-lawful, bool-tells, bool-lawful}
+use denote.Plain.{Boolean, uint-makes, uint-vals, uint-tells, uint-lawful, bool-makes, bool-tells, bool-lawful}
 use denote.Builtin.{i16, i32, u8, usize}
 use denote.Ref.{RefT}
 use denote.Slice.{sliceTy, sliceVal, MutSlice, ShrSlice, Room, heres, codedHoleys, at-slice, finally, slice-vals, mut-slice-tells}
@@ -60,7 +60,7 @@ use denote.Triple.Walked.{says, needs, Stays, stay-slice, stay-none, stay-none-s
 use denote.Triple.Walked.{goes-none-slice, goes-gave-slice, Walks, ends-at, walked, walk-meets}
 use denote.Exit.{yes}
 use Rattle.voice.specs.declared.record.Voice.{Voice}
-use Rattle.voices.specs.Inner.{State, LongAt, AllFormed, serve-one, ticked}
+use Rattle.voices.specs.Inner.{AllFormed, ticked}
 use Rattle.voice.proofs.record.Voice as T
 use Rattle.voice.proofs.record.Voice.Laws as T′
 use Rattle.stems.specs.Memory.{VOICES, laneLength}
@@ -69,6 +69,7 @@ use Rattle.voice.specs.Malformed.{WellFormed}
 use Rattle.stems.specs.Inner.{LongAs}
 use Rattle.calls.specs.Begin.{Fitting}
 use Rattle.voice_turn.specs.Turn.{answerTo, takenBy, region0By, region1By, lanesBy, mixesBy}
+use Rattle.turns.specs.Turns.{State, LongAt, serve-one}
 use Rattle.voices.proofs.Steps.{counted, formed-now, fitting-now, others-stay, upto-next}
 use Rattle.stems.specs.declared.Fixed.{Fixed}
 use Rattle.stems.proofs.Fixed as Fixed-T
@@ -83,12 +84,12 @@ use Rattle.lists.specs.Some.{some as some-of}
 use Rattle.stems.specs.Call.{noMixes}
 use Rattle.voice.specs.Malformed.{malformed}
 use Rattle.calls.specs.Refused.{listed, returned}
-use Rattle.calls.specs.Begin.{beginning}
-use Rattle.voices.specs.Inner.{lengthsCode}
-use Rattle.voices.proofs.Contract.{Ensured, begins, goes-on, refused-call, malformed-call, served-call}
-use Rattle.voices.proofs.Steps.{is-true, is-false, no-refusal}
-use Rattle.voices.proofs.Again.{LentAgain, lends-again, comes-back}
-use Rattle.voices.proofs.Shared.{LentShared, lends-shared, shared-back}
+use Rattle.calls.specs.Begin.{beginning, lengthsCode}
+use Rattle.turns.proofs.Begun.{begins}
+use Rattle.turns.proofs.Steps.{is-true, is-false, no-refusal}
+use Rattle.voices.proofs.Contract.{Ensured, goes-on, refused-call, malformed-call, served-call}
+use Rattle.turns.proofs.Again.{LentAgain, lends-again, comes-back}
+use Rattle.turns.proofs.Shared.{LentShared, lends-shared, shared-back}
 use Rattle.calls.proofs.refusal.lengths_number as lengths-number
 use Rattle.calls.proofs.refusal.lengths_number.Symbol as lengths-number-def
 use Rattle.calls.proofs.refusal.lengths_number.Symbol.{name as #voices·lengths-number}
@@ -97,10 +98,10 @@ use Rattle.calls.proofs.refused.refuse as refuse
 use Rattle.calls.proofs.refused.refuse.Symbol as refuse-def
 use Rattle.calls.proofs.refused.refuse.Symbol.{name as #voices·refuse}
 use Rattle.calls.proofs.refused.refuse.Met as refuse-thm
-use Rattle.voices.proofs.any_malformed as any-malformed
-use Rattle.voices.proofs.any_malformed.Symbol as any-malformed-def
-use Rattle.voices.proofs.any_malformed.Symbol.{name as #voices·any-malformed}
-use Rattle.voices.proofs.any_malformed.Met as any-malformed-thm
+use Rattle.turns.proofs.any_malformed as any-malformed
+use Rattle.turns.proofs.any_malformed.Symbol as any-malformed-def
+use Rattle.turns.proofs.any_malformed.Symbol.{name as #voices·any-malformed}
+use Rattle.turns.proofs.any_malformed.Met as any-malformed-thm
 use Rattle.calls.proofs.begin.begin as begin
 use Rattle.calls.proofs.begin.begin.Symbol as begin-def
 use Rattle.calls.proofs.begin.begin.Symbol.{name as #voices·begin}
@@ -1630,7 +1631,7 @@ tick-spec 𝓤 H 𝓜 𝓖 𝓡 =
     (cited 𝓤 H (Refused 𝓤 H (𝓖 .A) (𝓜 .mem) (𝓡 .run)) 𝓜 𝓡 code.env #voices·refuse refuse-def.routine
     code.calls-calls·refused·refuse (refuse-thm.met 𝓤 H 𝓜 𝓖 𝓡))
     (cited 𝓤 H (Scan 𝓤 H (𝓖 .A) (𝓜 .mem) (𝓡 .run)) 𝓜 𝓡 code.env #voices·any-malformed any-malformed-def.routine
-    code.calls-voices·any-malformed (any-malformed-thm.met 𝓤 H 𝓜 𝓖 𝓡))
+    code.calls-turns·any-malformed (any-malformed-thm.met 𝓤 H 𝓜 𝓖 𝓡))
     (cited 𝓤 H (Open 𝓤 H (𝓖 .A) (𝓜 .mem) (𝓡 .run)) 𝓜 𝓡 code.env #voices·begin begin-def.routine code.calls-calls·begin·begin
     (begin-thm.met 𝓤 H 𝓜 𝓖 𝓡))
     (cited 𝓤 H (Tick 𝓤 H (𝓖 .A) (𝓜 .mem) (𝓡 .run)) 𝓜 𝓡 code.env #voices·serve-all serve-all-def.routine

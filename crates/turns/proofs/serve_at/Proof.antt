@@ -1,4 +1,4 @@
--- `voices::serve_at` meets its contract: a walk of its MIR, by hand. The borrow of the slice is opened, one element is taken out
+-- `turns::serve_at` meets its contract: a walk of its MIR, by hand. The borrow of the slice is opened, one element is taken out
 -- of the row and read, the covered function `take_turn` is called on it, and what it returns is put back. Each other `&mut` is
 -- given up for good to the callee (`gave-slice`), at its own lifetime, share and ghost name; of each `&` a copy goes to the
 -- callee.
@@ -62,7 +62,7 @@ use denote.Triple.Walked.{goes-none-slice, goes-gave-slice, Walks, ends-at, walk
 use denote.Exit.{yes}
 use Rattle.voice.specs.declared.record.Voice.{Voice}
 use Rattle.voice_turn.specs.declared.turn.Taken.{Taken}
-use Rattle.voices.specs.Inner.{State, LongAt, AllFormed, serve-one, ticked}
+use Rattle.turns.specs.Turns.{State, LongAt, serve-one}
 use Rattle.voice.proofs.record.Voice as T
 use Rattle.voice.proofs.record.Voice.Laws as T′
 use Rattle.stems.specs.Memory.{VOICES, laneLength}
@@ -71,7 +71,6 @@ use Rattle.voice.specs.Malformed.{WellFormed}
 use Rattle.stems.specs.Inner.{LongAs}
 use Rattle.calls.specs.Begin.{Fitting}
 use Rattle.voice_turn.specs.Turn.{answerTo, takenBy, region0By, region1By, lanesBy, mixesBy}
-use Rattle.voices.proofs.Steps.{counted, formed-now, fitting-now, others-stay, upto-next}
 use Rattle.stems.specs.declared.Fixed.{Fixed}
 use Rattle.stems.proofs.Fixed as Fixed-T
 use Rattle.stems.proofs.Fixed.Laws as Fixed-L
@@ -80,16 +79,16 @@ use Rattle.calls.proofs.begin.Turn as Turn-T
 use Rattle.calls.proofs.begin.Turn.Laws as Turn-L
 use Rattle.voice_turn.proofs.turn.Taken as S
 use Rattle.voice_turn.proofs.turn.Taken.Laws as S′
-use Rattle.voices.proofs.Big.{big-lit}
+use Rattle.turns.proofs.Big.{big-lit}
 use Rattle.voice_turn.proofs.turn.take_turn as take-turn
 use Rattle.voice_turn.proofs.turn.take_turn.Symbol as take-turn-def
-use Rattle.voice_turn.proofs.turn.take_turn.Symbol.{name as #voices·take-turn}
+use Rattle.voice_turn.proofs.turn.take_turn.Symbol.{name as #turns·take-turn}
 use Rattle.voice_turn.proofs.turn.take_turn.Met as take-turn-thm
-use Rattle.voices.proofs.serve_at.Key.{name as #voices·serve-at}
-use Rattle.voices.proofs.serve_at as f
-use Rattle.voices.proofs.serve_at.Statement as stated
-use Rattle.voices.proofs.serve_at.Code as code
-use Rattle.voices.proofs.serve_at.Code.Mir as body
+use Rattle.turns.proofs.serve_at.Key.{name as #turns·serve-at}
+use Rattle.turns.proofs.serve_at as f
+use Rattle.turns.proofs.serve_at.Statement as stated
+use Rattle.turns.proofs.serve_at.Code as code
+use Rattle.turns.proofs.serve_at.Code.Mir as body
 
 abbrev R : RattleType
 R = T.the-row
@@ -371,7 +370,7 @@ module _ {M : Type 1} (𝓤 : URA M) (H : Heap 𝓤) (A : Atoms 𝓤) (W : Given
   abbrev Last : Type 0
   Last = Lasts take-turn.ended (κ₁, (κ₂, (κ₃, (κ₄, (κ₅, tt))))) passed
 
-  module _ (C : Calls 𝓤 H) (Λ : Loops 𝓤 H) (fm : FmC 𝓤 H (W .laws) C) (known : Triple 𝓤 (C #voices·take-turn) (Serve 𝓤 H A at-mem
+  module _ (C : Calls 𝓤 H) (Λ : Loops 𝓤 H) (fm : FmC 𝓤 H (W .laws) C) (known : Triple 𝓤 (C #turns·take-turn) (Serve 𝓤 H A at-mem
       run)) where
     walk : ent 𝓤 (onEntry 𝓤 H A f.signature (κ, (κ₁, (κ₂, (κ₃, (κ₄, (κ₅, tt)))))) (q, (q₁, (q₂, (q₃, (q₄, (q₅, tt)))))) a vals)
         (WpFn 𝓤 H C Λ code.function (s ∷ vint w64 n ∷ LL.val Turn-T.the-type Turn-L.the-laws turn ∷ LL.val Fixed-T.the-type
@@ -611,8 +610,8 @@ module _ {M : Type 1} (𝓤 : URA M) (H : Heap 𝓤) (A : Atoms 𝓤) (W : Given
 
 module _ {M : Type 1} (𝓤 : URA M) (H : Heap 𝓤) (A : Atoms 𝓤) (W : Given 𝓤 H A) (at-mem : Memory → SProp 𝓤) (run : Routine → Fun
     𝓤) where
-  serve-at-walks : (C : Calls 𝓤 H) (Λ : Loops 𝓤 H) → FmC 𝓤 H (W .laws) C → Triple 𝓤 (C #voices·take-turn) (Serve 𝓤 H A at-mem
-      run) → Walks 𝓤 H A f.ended stayed (WpFn 𝓤 H C Λ code.function) (f.clauses 𝓤 H A at-mem run)
+  serve-at-walks : (C : Calls 𝓤 H) (Λ : Loops 𝓤 H) → FmC 𝓤 H (W .laws) C → Triple 𝓤 (C #turns·take-turn) (Serve 𝓤 H A at-mem run)
+      → Walks 𝓤 H A f.ended stayed (WpFn 𝓤 H C Λ code.function) (f.clauses 𝓤 H A at-mem run)
   serve-at-walks C Λ fm known = walked 𝓤 H A f.ended stayed (f.clauses 𝓤 H A at-mem run) (WpFn 𝓤 H C Λ code.function)
       (λ κs. (
         slice-vals,
@@ -670,7 +669,7 @@ module _ {M : Type 1} (𝓤 : URA M) (H : Heap 𝓤) (A : Atoms 𝓤) (W : Given
       .1 .1 .1 .1 .0 .0 .1) (are .1 .1 .1 .1 .1 .1 .1 .1 .0 .0 .1) ok C Λ fm known))
 
 serve-at-meets : {M : Type 1} (𝓤 : URA M) (H : Heap 𝓤) (A : Atoms 𝓤) → Given 𝓤 H A → (at-mem : Memory → SProp 𝓤) (run : Routine →
-    Fun 𝓤) (𝓣 : Tables 𝓤 H) → Triple 𝓤 (𝓣 .C #voices·take-turn) (Serve 𝓤 H A at-mem run)
+    Fun 𝓤) (𝓣 : Tables 𝓤 H) → Triple 𝓤 (𝓣 .C #turns·take-turn) (Serve 𝓤 H A at-mem run)
     → Meets 𝓤 H A f.signature (WpFn 𝓤 H (𝓣 .C) (𝓣 .Λ) code.function) (f.spec 𝓤 H A at-mem run)
 serve-at-meets 𝓤 H A W at-mem run 𝓣 known =
     walk-meets 𝓤 H A f.ended stayed W (
@@ -708,7 +707,7 @@ pub serve-at-spec : {M : Type 1} → stated.statement M
 unfolding code.routine tablesOf
 serve-at-spec 𝓤 H 𝓜 𝓖 𝓡 =
     entered 𝓤 H (tripleOf 𝓤 H (𝓖 .A) f.signature (f.spec 𝓤 H (𝓖 .A) (𝓜 .mem) (𝓡 .run)))
-    (tables 𝓤 H 𝓜 𝓡 code.env .C) (tables 𝓤 H 𝓜 𝓡 code.env .Λ) #voices·serve-at code.function (code.unfolded 𝓤 H 𝓜 𝓡)
+    (tables 𝓤 H 𝓜 𝓡 code.env .C) (tables 𝓤 H 𝓜 𝓡 code.env .Λ) #turns·serve-at code.function (code.unfolded 𝓤 H 𝓜 𝓡)
     (serve-at-meets 𝓤 H (𝓖 .A) (givenOf 𝓤 H 𝓜 𝓖) (𝓜 .mem) (𝓡 .run) (tablesOf 𝓤 H 𝓜 (tables 𝓤 H 𝓜 𝓡 code.env))
-    (cited 𝓤 H (Serve 𝓤 H (𝓖 .A) (𝓜 .mem) (𝓡 .run)) 𝓜 𝓡 code.env #voices·take-turn take-turn-def.routine
+    (cited 𝓤 H (Serve 𝓤 H (𝓖 .A) (𝓜 .mem) (𝓡 .run)) 𝓜 𝓡 code.env #turns·take-turn take-turn-def.routine
     code.calls-voice-turn·turn·take-turn (take-turn-thm.met 𝓤 H 𝓜 𝓖 𝓡)))

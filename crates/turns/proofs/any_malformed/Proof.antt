@@ -1,4 +1,4 @@
--- `voices::any_malformed` meets its contract: a walk of its MIR, by hand. A loop over a shared slice: in each turn a copy of what
+-- `turns::any_malformed` meets its contract: a walk of its MIR, by hand. A loop over a shared slice: in each turn a copy of what
 -- the slice owns is looked into, one element is read and put back, and the covered function `worse` is called on it.
 -- Assumes nothing.
 use mathlib.Core.Path.{_≡_, refl, sym, _∙_, ap, subst}
@@ -59,25 +59,25 @@ use denote.Triple.Walked.{says, needs, Stays, stay-slice, stay-none, stay-none-s
 use denote.Triple.Walked.{goes-none-slice, goes-gave-slice, Walks, ends-at, walked, walk-meets}
 use denote.Exit.{yes}
 use Rattle.voice.specs.declared.record.Voice.{Voice}
-use Rattle.voices.specs.Inner.{anyUpTo}
+use Rattle.turns.specs.Turns.{anyUpTo}
 use Rattle.voice.proofs.record.Voice as T
 use Rattle.voice.proofs.record.Voice.Laws as T′
 use mathlib.Core.Bool.{_||_}
 use Rattle.stems.specs.Memory.{laneLength}
 use Rattle.voice.specs.Blank.{defaultVoice}
 use Rattle.voice.specs.Malformed.{malformed}
-use Rattle.voices.proofs.Steps.{any-is}
-use Rattle.voices.proofs.Big.{big-lit}
-use Rattle.voices.proofs.While.{tests}
+use Rattle.turns.proofs.Steps.{any-is}
+use Rattle.turns.proofs.Big.{big-lit}
+use Rattle.turns.proofs.While.{tests}
 use Rattle.calls.proofs.refusal.worse as worse
 use Rattle.calls.proofs.refusal.worse.Symbol as worse-def
-use Rattle.calls.proofs.refusal.worse.Symbol.{name as #voices·worse}
+use Rattle.calls.proofs.refusal.worse.Symbol.{name as #turns·worse}
 use Rattle.calls.proofs.refusal.worse.Met as worse-thm
-use Rattle.voices.proofs.any_malformed.Key.{name as #voices·any-malformed}
-use Rattle.voices.proofs.any_malformed as f
-use Rattle.voices.proofs.any_malformed.Statement as stated
-use Rattle.voices.proofs.any_malformed.Code as code
-use Rattle.voices.proofs.any_malformed.Code.Mir as body
+use Rattle.turns.proofs.any_malformed.Key.{name as #turns·any-malformed}
+use Rattle.turns.proofs.any_malformed as f
+use Rattle.turns.proofs.any_malformed.Statement as stated
+use Rattle.turns.proofs.any_malformed.Code as code
+use Rattle.turns.proofs.any_malformed.Code.Mir as body
 
 abbrev R : RattleType
 R = T.the-row
@@ -180,7 +180,7 @@ module _ {M : Type 1} (𝓤 : URA M) (H : Heap 𝓤) (A : Atoms 𝓤) (W : Given
     said r = exE 𝓤 _ (λ ws. snd∗ 𝓤 (sem 𝓤 H A (lasts worse.ended tt passed ws)) (fact 𝓤 (r ≡ ((st (i .0)) || malformed
         (laneLength lanes) d))))
 
-  module _ (𝓣 : Tables 𝓤 H) (known : Triple 𝓤 (𝓣 .C #voices·worse) (Callee 𝓤 H A at-mem run)) (l₀ l₁ l₂ l₃ l₄ l₅ l₆ l₇ l₈ l₉ : ℕ)
+  module _ (𝓣 : Tables 𝓤 H) (known : Triple 𝓤 (𝓣 .C #turns·worse) (Callee 𝓤 H A at-mem run)) (l₀ l₁ l₂ l₃ l₄ l₅ l₆ l₇ l₈ l₉ : ℕ)
     where
       abbrev C : Calls 𝓤 H
       C = 𝓣 .C
@@ -313,8 +313,10 @@ module _ {M : Type 1} (𝓤 : URA M) (H : Heap 𝓤) (A : Atoms 𝓤) (W : Given
           Nearer-wf At turns (0, zero-le)
 
   -- the MIR, up to the loop
-  walk : (𝓣 : Tables 𝓤 H) → Triple 𝓤 (𝓣 .C #voices·worse) (Callee 𝓤 H A at-mem run) → ent 𝓤 (onEntry 𝓤 H A f.signature (κ, tt)
-      (q, tt) a vals) (WpFn 𝓤 H (𝓣 .C) (𝓣 .Λ) code.function (s ∷ vint w64 lanes ∷ []) Post)
+  walk : (𝓣 : Tables 𝓤 H) → Triple 𝓤 (𝓣 .C #turns·worse) (Callee 𝓤 H A at-mem run) → ent 𝓤 (onEntry 𝓤 H A f.signature (κ, tt) (
+    q,
+    tt,
+  ) a vals) (WpFn 𝓤 H (𝓣 .C) (𝓣 .Λ) code.function (s ∷ vint w64 lanes ∷ []) Post)
   walk 𝓣 known =
       qed W ((‵ (flft κ q) ⊛ ‵ ftrue) ∷ ‵ (owns (ShrSlice (named 0) κ R ∷ usize ∷ []) a vals) ∷ []) ∵ enter ! (𝓣 .C) (𝓣 .Λ)
       code.function (s ∷ vint w64 lanes ∷ []) _ $
@@ -332,7 +334,7 @@ module _ {M : Type 1} (𝓤 : URA M) (H : Heap 𝓤) (A : Atoms 𝓤) (W : Given
 
 module _ {M : Type 1} (𝓤 : URA M) (H : Heap 𝓤) (A : Atoms 𝓤) (W : Given 𝓤 H A) (at-mem : Memory → SProp 𝓤) (run : Routine → Fun
     𝓤) where
-  any-malformed-walks : (𝓣 : Tables 𝓤 H) → Triple 𝓤 (𝓣 .C #voices·worse) (Callee 𝓤 H A at-mem run) → Walks 𝓤 H A f.ended stayed
+  any-malformed-walks : (𝓣 : Tables 𝓤 H) → Triple 𝓤 (𝓣 .C #turns·worse) (Callee 𝓤 H A at-mem run) → Walks 𝓤 H A f.ended stayed
       (WpFn 𝓤 H (𝓣 .C) (𝓣 .Λ) code.function) (f.clauses 𝓤 H A at-mem run)
   any-malformed-walks 𝓣 known = walked 𝓤 H A f.ended stayed (f.clauses 𝓤 H A at-mem run) (WpFn 𝓤 H (𝓣 .C) (𝓣 .Λ) code.function)
       (λ κs. (slice-vals, (uint-vals w64, tt))) (λ κs. (shr-slice-tells (named 0) (κs .0) R, (uint-tells w64, tt)))
@@ -341,7 +343,7 @@ module _ {M : Type 1} (𝓤 : URA M) (H : Heap 𝓤) (A : Atoms 𝓤) (W : Given
       (are .0 .0 .1) 𝓣 known))
 
 any-malformed-meets : {M : Type 1} (𝓤 : URA M) (H : Heap 𝓤) (A : Atoms 𝓤) → Given 𝓤 H A → (at-mem : Memory → SProp 𝓤) (run :
-    Routine → Fun 𝓤) (𝓣 : Tables 𝓤 H) → Triple 𝓤 (𝓣 .C #voices·worse) (Callee 𝓤 H A at-mem run)
+    Routine → Fun 𝓤) (𝓣 : Tables 𝓤 H) → Triple 𝓤 (𝓣 .C #turns·worse) (Callee 𝓤 H A at-mem run)
     → Meets 𝓤 H A f.signature (WpFn 𝓤 H (𝓣 .C) (𝓣 .Λ) code.function) (f.spec 𝓤 H A at-mem run)
 any-malformed-meets 𝓤 H A W at-mem run 𝓣 known =
     walk-meets 𝓤 H A f.ended stayed W (
@@ -359,7 +361,7 @@ pub any-malformed-spec : {M : Type 1} → stated.statement M
 unfolding code.routine tablesOf
 any-malformed-spec 𝓤 H 𝓜 𝓖 𝓡 =
     entered 𝓤 H (tripleOf 𝓤 H (𝓖 .A) f.signature (f.spec 𝓤 H (𝓖 .A) (𝓜 .mem) (𝓡 .run)))
-    (tables 𝓤 H 𝓜 𝓡 code.env .C) (tables 𝓤 H 𝓜 𝓡 code.env .Λ) #voices·any-malformed code.function (code.unfolded 𝓤 H 𝓜 𝓡)
+    (tables 𝓤 H 𝓜 𝓡 code.env .C) (tables 𝓤 H 𝓜 𝓡 code.env .Λ) #turns·any-malformed code.function (code.unfolded 𝓤 H 𝓜 𝓡)
     (any-malformed-meets 𝓤 H (𝓖 .A) (givenOf 𝓤 H 𝓜 𝓖) (𝓜 .mem) (𝓡 .run) (tablesOf 𝓤 H 𝓜 (tables 𝓤 H 𝓜 𝓡 code.env))
-    (cited 𝓤 H (Callee 𝓤 H (𝓖 .A) (𝓜 .mem) (𝓡 .run)) 𝓜 𝓡 code.env #voices·worse worse-def.routine code.calls-calls·refusal·worse
+    (cited 𝓤 H (Callee 𝓤 H (𝓖 .A) (𝓜 .mem) (𝓡 .run)) 𝓜 𝓡 code.env #turns·worse worse-def.routine code.calls-calls·refusal·worse
     (worse-thm.met 𝓤 H 𝓜 𝓖 𝓡)))
