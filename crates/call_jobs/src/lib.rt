@@ -1,11 +1,12 @@
-// Test only: whole calls, for all voices and of the mixer, as the program run_calls and the oracle hand them to each other. A job has all
-// that a call is given and lent, and its answer all that the call gives back and leaves: nothing is kept from one job to the next. Numbers
-// are little-endian, words have 32 bits, and a record stands in 2,456 bytes as record_reader has them. A job begins with 84 bytes:
-//   0  the kind: 0 the call for all voices, 1 the mixer's
+// Test only: whole calls, for all voices, of the mixer and for one voice alone, as the program run_calls and the oracle hand them to each
+// other. A job has all that a call is given and lent, and its answer all that the call gives back and leaves: nothing is kept from one job
+// to the next. Numbers are little-endian, words have 32 bits, and a record stands in 2,456 bytes as record_reader has them. A job begins
+// with 84 bytes:
+//   0  the kind: 0 the call for all voices, 1 the mixer's, 2 the call for one voice alone
 //   4  how many times the call is made, 1 or more, each time on what the time before left; the answer is the last one's
 //   8  the layout's seven offsets, in document 01's order
 //  36  the window's base, for the voices
-//  40  the number of the region to be read, for the mixer
+//  40  the number of the region to be read, for the mixer; the number of the voice, for one alone
 //  44  the mixer's state, 16 bytes, as mixer_forms has it
 //  60  how many records there are, 25 at most
 //  64  how many bytes region 0 and region 1 have, 65,537 at most, and how many the window, 65,536 at most
@@ -15,7 +16,7 @@
 // job has. The answer begins with 708 bytes:
 //   0  the number, how many voices were refused, two zeros
 //   4  the refused voices in their order, two bytes each, the voice and its number; zeros up to 52
-//  52  the mixer's state, 16 bytes, and its frame, 320 samples; zeros after the call for all voices
+//  52  the mixer's state, 16 bytes, and its frame, 320 samples; zeros after a call for voices
 // Then follow the records, region 0, region 1, the lanes and the mixes as the call left them, as long as they were. A job that has not the
 // form is answered by two bytes, 255 and the reason, and ends the program: 1 the input ends within it, 2 there is no such kind, 3 no times,
 // 4 to 9 too many records, bytes of region 0, of region 1 or of the window, samples, or values.
@@ -51,6 +52,11 @@ pub const ROOM: usize = 98306;
 
 const RECORD: usize = 2456;
 
+// The kinds but for 0.
+const MIXER: u32 = 1;
+
+const ALONE: u32 = 2;
+
 const ENDS_EARLY: u8 = 1;
 
 const NO_KIND: u8 = 2;
@@ -79,7 +85,7 @@ fn record_bytes(head: &[u8; HEAD]) -> usize {
 // Why a job with this head is bad, or 0.
 fn reason(head: &[u8; HEAD]) -> u8 {
     let kind = word(head, 0);
-    if kind > 1 {
+    if kind > ALONE {
         return NO_KIND;
     }
     if word(head, 4) == 0 {
@@ -142,10 +148,10 @@ fn call(
     lanes: &mut [i16; LANES],
     mixes: &mut [i32; MIXES],
 ) -> [u8; ANSWER] {
-    if word(head, 0) == 0 {
-        return voice_calls::call(head, records, first, second, window, lanes, mixes);
+    if word(head, 0) == MIXER {
+        return mixer_calls::call(head, first, second, mixes);
     }
-    mixer_calls::call(head, first, second, mixes)
+    voice_calls::call(head, records, first, second, window, lanes, mixes)
 }
 
 // Answers one job, and says whether to go on. What is lent is room for its fields, and for what is not bytes among them.

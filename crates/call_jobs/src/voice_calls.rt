@@ -1,5 +1,6 @@
-// The call for all voices.
+// The calls for all voices and for one voice alone.
 ghost use Prim.Native.Nat.{_≤_};
+use crate::ALONE;
 use crate::ANSWER;
 use crate::HEAD;
 use crate::RECORDS;
@@ -14,11 +15,31 @@ use lending::MOST;
 use stems::Fixed;
 use voice::record::Voice;
 
+// What is called, the call for one voice alone, which has this number, or else the call for all voices; and what either is handed.
+struct Called {
+    alone: bool,
+    voice: usize,
+    fixed: Fixed,
+}
+
+fn called_of(head: &[u8; HEAD]) -> Called {
+    let layout = mixer_forms::layout_of(head, 8);
+    let fixed = Fixed {
+        layout,
+        base: word(head, 36),
+    };
+    Called {
+        alone: word(head, 0) == ALONE,
+        voice: word(head, 40) as usize,
+        fixed,
+    }
+}
+
 // Once. Nothing is promised, so that no caller has to carry what the call promises.
 fn once(
+    called: Called,
     given: [Voice; MOST],
     count: usize,
-    fixed: Fixed,
     first: &mut [u8],
     second: &mut [u8],
     window: &[u8],
@@ -27,15 +48,29 @@ fn once(
 ) -> Framed
     requires { ⌜ count ≤ 25 ⌝ }
 {
+    let fixed = called.fixed;
+    if called.alone {
+        return lending::stem(
+            given,
+            count,
+            called.voice,
+            fixed,
+            first,
+            second,
+            window,
+            lanes,
+            mixes,
+        );
+    }
     lending::frame(given, count, fixed, first, second, window, lanes, mixes)
 }
 
 // So many times, once at least, each on what the one before left.
 fn repeat(
     times: u32,
+    called: Called,
     given: [Voice; MOST],
     count: usize,
-    fixed: Fixed,
     first: &mut [u8],
     second: &mut [u8],
     window: &[u8],
@@ -44,11 +79,11 @@ fn repeat(
 ) -> Framed
     requires { ⌜ count ≤ 25 ⌝ }
 {
-    let mut framed = once(given, count, fixed, first, second, window, lanes, mixes);
+    let mut framed = once(called, given, count, first, second, window, lanes, mixes);
     let mut left = times;
     while left > 1 {
         let vs = framed.vs;
-        framed = once(vs, count, fixed, first, second, window, lanes, mixes);
+        framed = once(called, vs, count, first, second, window, lanes, mixes);
         left -= 1;
     }
     framed
@@ -74,9 +109,9 @@ fn start_of(returned: Returned) -> [u8; ANSWER] {
 // On records in bytes.
 fn serve(
     times: u32,
+    called: Called,
     records: &mut [u8; RECORDS],
     count: usize,
-    fixed: Fixed,
     first: &mut [u8],
     second: &mut [u8],
     window: &[u8],
@@ -88,9 +123,9 @@ fn serve(
     let given = records_of(records, count);
     let framed = repeat(
         times,
+        called,
         given,
         count,
-        fixed,
         first,
         second,
         window,
@@ -113,11 +148,6 @@ pub fn call(
     lanes: &mut [i16],
     mixes: &mut [i32],
 ) -> [u8; ANSWER] {
-    let layout = mixer_forms::layout_of(head, 8);
-    let fixed = Fixed {
-        layout,
-        base: word(head, 36),
-    };
     let count = within(size(head, 60), MOST);
     let one = within(size(head, 64), first.len());
     let two = within(size(head, 68), second.len());
@@ -126,9 +156,9 @@ pub fn call(
     let values = within(size(head, 80), mixes.len());
     serve(
         word(head, 4),
+        called_of(head),
         records,
         count,
-        fixed,
         &mut first[0..one],
         &mut second[0..two],
         &window[0..three],

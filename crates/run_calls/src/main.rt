@@ -1,6 +1,6 @@
-// Answers jobs for the oracle: whole calls, for all voices and of the mixer. call_jobs tells a job's form and its answer's. Standard input
-// holds jobs, one after the other, and what is answered goes to standard output; a bad job ends the program. stdin and stdout are a fixed
-// list that oracle/record wrote.
+// Answers jobs for the oracle: whole calls, for all voices, of the mixer and for one voice alone. call_jobs tells a job's form and its
+// answer's. Standard input holds jobs, one after the other, and what is answered goes to standard output; a bad job ends the program. stdin
+// and stdout are a fixed list that oracle/record wrote.
 use call_jobs::LANES;
 use call_jobs::MIXES;
 use call_jobs::RECORDS;

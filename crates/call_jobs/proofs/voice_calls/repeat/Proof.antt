@@ -6,11 +6,11 @@ use Rattle.call_jobs.proofs.voice_calls.repeat.Statement.{statement}
 use Rattle.call_jobs.proofs.voice_calls.repeat.Tie as tie
 
 abbrev Inv-loop : tie.InvT-loop
-Inv-loop times count fixed first₀ second₀ window lanes₀ mixes₀ framed₀ left₀ first second lanes mixes framed left =
+Inv-loop times called count first₀ second₀ window lanes₀ mixes₀ framed₀ left₀ first second lanes mixes framed left =
     (length first ≡ length first₀) × (length second ≡ length second₀) × (length lanes ≡ length lanes₀) × (length mixes ≡ length mixes₀)
 
 abbrev μ-loop : tie.MeasureT-loop
-μ-loop times count fixed first₀ second₀ window lanes₀ mixes₀ framed₀ left₀ first second lanes mixes framed left = left
+μ-loop times called count first₀ second₀ window lanes₀ mixes₀ framed₀ left₀ first second lanes mixes framed left = left
 
 once-requires : tie.Need-once-requires Inv-loop μ-loop
 once-requires c κs = search needs
