@@ -90,16 +90,27 @@ tick_voice = guarded(cfg=alone_cfg, fn='tick_voice', one=('voice', 'num', 'usize
     f'late-call {given_alone} {{r}} {{k}} zero-is {{k_is}} {{held}} {{e_r}}', served_proof=
     f'served-call {given_alone} zero-is good ' + last)
 guards = [tick, tick_voice]
-# the function by which a program lends its records
+# the functions by which a program lends its records
 x = '(lent {region0} {region1} {window} {vs} {lanes} {mixes})'
-frame = dict(crate='lending', fn='frame', joined='joined', framed='Framed', count=25, uses=['use Rattle.stems.specs.Call.{wholeNumber}',
-        'use Rattle.calls.specs.Lent.{lent}', 'use Rattle.voices.specs.Tick.{left, RefusedBy}', 'use Rattle.voices.proofs.Contract.{Ensured}'], call_clause=
-    'Ensured {fixed} {region0} {region1} {window} {vs} {lanes} {mixes} {r} {vs_last} {region0_last} {region1_last} {lanes_last} '
-    '{mixes_last}', clause=
-    f'({{r}} .answer .number ≡ wholeNumber fixed {x}) × ({{r}} .vs ≡ left fixed {x} .memory .records ++ back) × ({{region0_last}} ≡ left '
-    f'fixed {x} .memory .region0) × ({{region1_last}} ≡ left fixed {x} .memory .region1) '
-    f'× ({{lanes_last}} ≡ left fixed {x} .memory .lanes) × ({{mixes_last}} ≡ left fixed {x} .mixes) × RefusedBy fixed {x} ({{r}} .answer '
-    f'.refused)', said=
-    'ap (λ (a : Returned). a .number) (e-r .1) ∙ e .0, e-r .0 ∙ ap (λ (l : List Voice). l ++ back) (e .1), e .2, e .3, e .4, e .5, subst '
-    '(λ (a : Returned). RefusedBy fixed (lent (region0 .now) (region1 .now) (window .now) front (lanes .now) (mixes .now)) (a .refused)) '
-    '(sym (e-r .1)) (e .6)',)
+given = '{region0} {region1} {window} {vs} {lanes} {mixes} {r} {vs_last} {region0_last} {region1_last} {lanes_last} {mixes_last}'
+
+
+def lends(fn, number, left, refused, **more):
+    return dict(crate='lending', fn=fn, joined='joined', framed='Framed', count=25, clause=f'({{r}} .answer .number ≡ {number} {x}) × '
+        f'({{r}} .vs ≡ {left} {x} .memory .records ++ back) × ' + ' × '.join(f'({{{p}_last}} ≡ {left} {x} .memory .{p})' for p in (
+                'region0', 'region1', 'lanes')) + f' × ({{mixes_last}} ≡ {left} {x} .mixes) × {refused}', **more)
+
+
+same = 'ap (λ (a : Returned). a .number) (e-r .1) ∙ e .0, e-r .0 ∙ ap (λ (l : List Voice). l ++ back) (e .1), e .2, e .3, e .4, e .5, '
+frames = [
+    lends('frame', 'wholeNumber fixed', 'left fixed', f'RefusedBy fixed {x} ({{r}} .answer .refused)', guard=tick, uses=[
+            'use Rattle.stems.specs.Call.{wholeNumber}', 'use Rattle.calls.specs.Lent.{lent}',
+            'use Rattle.voices.specs.Tick.{left, RefusedBy}', 'use Rattle.voices.proofs.Contract.{Ensured}'], call_clause=
+        'Ensured {fixed} ' + given, said=same +
+        'subst (λ (a : Returned). RefusedBy fixed (lent (region0 .now) (region1 .now) (window .now) front (lanes .now) (mixes .now)) (a '
+        '.refused)) (sym (e-r .1)) (e .6)'),
+    lends('stem', 'aloneNumber fixed voice', 'left fixed voice', f'({{r}} .answer .refused ≡ refused fixed voice {x})', guard=tick_voice,
+        uses=['use Rattle.stems.specs.Call.{aloneNumber}', 'use Rattle.calls.specs.Lent.{lent}',
+            'use Rattle.alone.specs.TickVoice.{left, refused}', 'use Rattle.alone.proofs.Contract.{Ensured}'], call_clause=
+        'Ensured {fixed} {voice} ' + given, said=same + 'ap (λ (a : Returned). a .refused) (e-r .1) ∙ e .6'),
+]

@@ -68,6 +68,7 @@ use Rattle.voice.specs.Malformed.{WellFormed}
 use Rattle.stems.specs.Inner.{LongAs}
 use Rattle.calls.specs.Begin.{Fitting}
 use Rattle.voice_turn.specs.Turn.{answerTo, takenBy, region0By, region1By, lanesBy, mixesBy}
+use Rattle.turns.specs.Turns.{State, LongAt, serve-one}
 use Rattle.voices.proofs.Steps.{counted, formed-now, fitting-now, others-stay, upto-next}
 use Rattle.stems.specs.declared.Fixed.{Fixed}
 use Rattle.stems.proofs.Fixed as Fixed-T
@@ -87,7 +88,8 @@ use Rattle.lending.specs.declared.Framed.{Framed}
 use Rattle.lending.proofs.Framed as F
 use Rattle.lending.proofs.Framed.Laws as F′
 use Rattle.stems.specs.Call.{wholeNumber}
-use Rattle.voices.specs.Tick.{lent, left, RefusedBy}
+use Rattle.calls.specs.Lent.{lent}
+use Rattle.voices.specs.Tick.{left, RefusedBy}
 use Rattle.voices.proofs.Contract.{Ensured}
 use Rattle.voices.proofs.tick as tick
 use Rattle.voices.proofs.tick.Symbol as tick-def
