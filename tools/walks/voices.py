@@ -68,10 +68,10 @@ guard_uses = ['use Rattle.lists.specs.Some.{some as some-of}', 'use Rattle.ste
 last = '{turn} {vs} {region0} {region1} {lanes} {mixes} (e .0) (e .1) (e .2) (e .3) (e .4) (e .5) {r} {e_r}'
 given = 'fixed ls-region0 ls-region1 (window .now) ys ls-lanes ls-mixes'
 tick = guarded(cfg=cfg, fn='tick', uses=guard_uses + [
-        'use Rattle.voices.proofs.Contract.{Ensured, goes-on, refused-call, malformed-call, served-call}'], any_code=7,
+        'use Rattle.voices.proofs.Contract.{Leaves, goes-on, refused-call, malformed-call, served-call}'], any_code=7,
     tick_requires_proof=f'goes-on {given} zero-is good fresh fresh-long', tick_extra_types=[
         '(j : ℕ) → j < n → LongAt fixed (window .now) j (ticked fixed (window .now) j ys ls-region0 ls-region1 ls-lanes fresh begun)'],
-    clause=f'Ensured {given} r zs-vs zs-region0 zs-region1 zs-lanes zs-mixes', refused_proof=
+    clause=f'Leaves {given} r zs-vs zs-region0 zs-region1 zs-lanes zs-mixes', refused_proof=
     f'refused-call {given} {{r}} {{k}} {{k_is}} {{held}} {{e_r}}', malformed_proof=f'malformed-call {given} {{r}} zero-is ({{bad}}) {{e_r}}',
     served_proof=f'served-call {given} zero-is good (e .6) ' + last)
 # the one for a voice alone
@@ -80,12 +80,12 @@ alone_cfg = dict(cfg, homes={**from_turns, 'alone_number': ('calls', 'refusal')}
 given_alone = 'fixed voice ls-region0 ls-region1 (window .now) ys ls-lanes ls-mixes'
 tick_voice = guarded(cfg=alone_cfg, fn='tick_voice', one=('voice', 'num', 'usize'), late='alone_number', uses=guard_uses + [
         'use mathlib.Core.Bool.{cond}', 'use Rattle.stems.specs.Call.{orElse}',
-        'use Rattle.alone.proofs.Contract.{Ensured, start-of, goes-on, refused-call, late-call, served-call}'], late_spec=
+        'use Rattle.alone.proofs.Contract.{Leaves, start-of, goes-on, refused-call, late-call, served-call}'], late_spec=
     'orElse (cond {} 7 0) (cond (ltb 23 voice) 10 0)', st=
     'serve-one {fixed} {window} {voice} (start-of {fixed} {ys} {region0} {region1} {lanes} {mixes})', tick_requires_proof=
     f'goes-on {given_alone} zero-is good fresh fresh-long', tick_extra_types=[
         'LongAt fixed (window .now) voice (start-of fixed ys ls-region0 ls-region1 ls-lanes fresh)'], clause=
-    f'Ensured {given_alone} r zs-vs zs-region0 zs-region1 zs-lanes zs-mixes', refused_proof=
+    f'Leaves {given_alone} r zs-vs zs-region0 zs-region1 zs-lanes zs-mixes', refused_proof=
     f'refused-call {given_alone} {{r}} {{k}} {{k_is}} {{held}} {{e_r}}', late_proof=
     f'late-call {given_alone} {{r}} {{k}} zero-is {{k_is}} {{held}} {{e_r}}', served_proof=
     f'served-call {given_alone} zero-is good ' + last)
@@ -105,12 +105,12 @@ same = 'ap (λ (a : Returned). a .number) (e-r .1) ∙ e .0, e-r .0 ∙ ap (λ (
 frames = [
     lends('frame', 'wholeNumber fixed', 'left fixed', f'RefusedBy fixed {x} ({{r}} .answer .refused)', guard=tick, uses=[
             'use Rattle.stems.specs.Call.{wholeNumber}', 'use Rattle.calls.specs.Lent.{lent}',
-            'use Rattle.voices.specs.Tick.{left, RefusedBy}', 'use Rattle.voices.proofs.Contract.{Ensured}'], call_clause=
-        'Ensured {fixed} ' + given, said=same +
+            'use Rattle.voices.specs.Tick.{left, RefusedBy}', 'use Rattle.voices.proofs.Contract.{Leaves}'], call_clause=
+        'Leaves {fixed} ' + given, said=same +
         'subst (λ (a : Returned). RefusedBy fixed (lent (region0 .now) (region1 .now) (window .now) front (lanes .now) (mixes .now)) (a '
         '.refused)) (sym (e-r .1)) (e .6)'),
     lends('stem', 'aloneNumber fixed voice', 'left fixed voice', f'({{r}} .answer .refused ≡ refused fixed voice {x})', guard=tick_voice,
         uses=['use Rattle.stems.specs.Call.{aloneNumber}', 'use Rattle.calls.specs.Lent.{lent}',
-            'use Rattle.alone.specs.TickVoice.{left, refused}', 'use Rattle.alone.proofs.Contract.{Ensured}'], call_clause=
-        'Ensured {fixed} {voice} ' + given, said=same + 'ap (λ (a : Returned). a .refused) (e-r .1) ∙ e .6'),
+            'use Rattle.alone.specs.TickVoice.{left, refused}', 'use Rattle.alone.proofs.Contract.{Leaves}'], call_clause=
+        'Leaves {fixed} {voice} ' + given, said=same + 'ap (λ (a : Returned). a .refused) (e-r .1) ∙ e .6'),
 ]

@@ -31,7 +31,7 @@ use Rattle.calls.proofs.Listed.{listed-after}
 use Rattle.turns.specs.Turns.{State, serve-one}
 use Rattle.turns.proofs.Begun.{first-not-0, some-number, each-formed, all-voices, still-fitting}
 use Rattle.turns.proofs.Turns.{memoryOf, turn-memory, turn-mixes, turn-carried}
-use Rattle.alone.specs.TickVoice.{left, refused}
+use Rattle.alone.specs.TickVoice.{left, refused, Ensured}
 
 -- where the voice's turn begins
 abbrev pub start-of : Fixed → List Voice → List ℕ → List ℕ → List ℤ → List ℤ → State
@@ -72,10 +72,8 @@ module _ (fx : Fixed) (v : ℕ) (r0 r1 w : List ℕ) (ys : List Voice) (lanes mi
   late = orElse (cond bad 7 0) (cond (ltb 23 v) 10 0)
 
   -- what is ensured
-  abbrev pub Ensured : Returned → List Voice → List ℕ → List ℕ → List ℤ → List ℤ → Type 0
-  Ensured r zs s0 s1 ls ms =
-      (r .number ≡ aloneNumber fx v x) × (zs ≡ left fx v x .memory .records) × (s0 ≡ left fx v x .memory .region0)
-      × (s1 ≡ left fx v x .memory .region1) × (ls ≡ left fx v x .memory .lanes) × (ms ≡ left fx v x .mixes) × (r .refused ≡ refused fx v x)
+  abbrev pub Leaves : Returned → List Voice → List ℕ → List ℕ → List ℤ → List ℤ → Type 0
+  Leaves r zs s0 s1 ls ms = Ensured fx v x r (lent s0 s1 w zs ls ms)
 
   number-is : aloneNumber fx v x ≡ orElse code late
   unfolding aloneNumber wholeNumber lengths
@@ -84,7 +82,7 @@ module _ (fx : Fixed) (v : ℕ) (r0 r1 w : List ℕ) (ys : List Voice) (lanes mi
   -- ---- refused as a whole
 
   refused-with : (n : ℕ) → aloneNumber fx v x ≡ n → (n ≡ 0 → ⊥) → (r : Returned) → r ≡ returned n (listed [])
-      → Ensured r ys r0 r1 lanes mixes
+      → Leaves r ys r0 r1 lanes mixes
   refused-with n is not0 r e =
       let not-0 : aloneNumber fx v x ≡ 0 → ⊥ = λ z. not0 (sym is ∙ z) in
       let same : x ≡ left fx v x = sym (stays (aloneNumber fx v x) fx v x not-0) in (
@@ -97,13 +95,13 @@ module _ (fx : Fixed) (v : ℕ) (r0 r1 w : List ℕ) (ys : List Voice) (lanes mi
         ap (λ (a : Returned). a .refused) e ∙ ap listed (sym (none-refused (aloneNumber fx v x) fx v x not-0)),
       )
 
-  pub refused-call : (r : Returned) (k : ℕ) → k ≡ code → T (not (eqb k 0)) → r ≡ returned k (listed []) → Ensured r ys r0 r1 lanes mixes
+  pub refused-call : (r : Returned) (k : ℕ) → k ≡ code → T (not (eqb k 0)) → r ≡ returned k (listed []) → Leaves r ys r0 r1 lanes mixes
   refused-call r k is held e =
       let not0 : k ≡ 0 → ⊥ = some-number k held in
       refused-with k (number-is ∙ first-not-0 code late (λ z. not0 (is ∙ z)) ∙ sym is) not0 r e
 
   pub late-call : (r : Returned) (k : ℕ) → code ≡ 0 → k ≡ late → T (not (eqb k 0)) → r ≡ returned k (listed [])
-      → Ensured r ys r0 r1 lanes mixes
+      → Leaves r ys r0 r1 lanes mixes
   late-call r k zero-is is held e =
       refused-with k (number-is ∙ ap (λ (n : ℕ). orElse n late) zero-is ∙ sym is) (some-number k held) r e
 
@@ -165,7 +163,7 @@ module _ (fx : Fixed) (v : ℕ) (r0 r1 w : List ℕ) (ys : List Voice) (lanes mi
 
     pub served-call : (t : Turn) (zs : List Voice) (s0 s1 : List ℕ) (ls ms : List ℤ) → t ≡ last .turn → zs ≡ last .voices
         → s0 ≡ last .region0 → s1 ≡ last .region1 → ls ≡ last .lanes → ms ≡ last .mixes
-        → (r : Returned) → r ≡ returned 0 (t .refused) → Ensured r zs s0 s1 ls ms
+        → (r : Returned) → r ≡ returned 0 (t .refused) → Leaves r zs s0 s1 ls ms
     served-call t zs s0 s1 ls ms et ez e0 e1 el em r e = (
       ap (λ (a : Returned). a .number) e ∙ sym number-0,
       ez ∙ ap (λ (y : Memory). y .records) memory-is,

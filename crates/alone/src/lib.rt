@@ -13,10 +13,8 @@ use stems::Fixed;
 use turns::any_malformed;
 use turns::serve_at;
 use voice::record::Voice;
-ghost use mathlib.Core.Path.{_≡_};
-ghost use Rattle.stems.specs.Call.{aloneNumber};
 ghost use Rattle.calls.specs.Lent.{lent};
-ghost use Rattle.alone.specs.TickVoice.{left, refused};
+ghost use Rattle.alone.specs.TickVoice.{Ensured};
 
 // Serves one frame of one voice. `fixed` is what every call of a run is handed alike.
 pub fn tick_voice(
@@ -29,20 +27,10 @@ pub fn tick_voice(
     lanes: &mut [i16],
     mixes: &mut [i32],
 ) -> Returned
-    ensures { λ r. ⌜ (r .number ≡ aloneNumber fixed voice (lent (now (region0 .entry)) (now (region1 .entry)) (now (window .entry))
-        (now (voices .entry)) (now (lanes .entry)) (now (mixes .entry))))
-        × (now (voices .exit) ≡ left fixed voice (lent (now (region0 .entry)) (now (region1 .entry)) (now (window .entry))
-        (now (voices .entry)) (now (lanes .entry)) (now (mixes .entry))) .memory .records)
-        × (now (region0 .exit) ≡ left fixed voice (lent (now (region0 .entry)) (now (region1 .entry)) (now (window .entry))
-        (now (voices .entry)) (now (lanes .entry)) (now (mixes .entry))) .memory .region0)
-        × (now (region1 .exit) ≡ left fixed voice (lent (now (region0 .entry)) (now (region1 .entry)) (now (window .entry))
-        (now (voices .entry)) (now (lanes .entry)) (now (mixes .entry))) .memory .region1)
-        × (now (lanes .exit) ≡ left fixed voice (lent (now (region0 .entry)) (now (region1 .entry)) (now (window .entry))
-        (now (voices .entry)) (now (lanes .entry)) (now (mixes .entry))) .memory .lanes)
-        × (now (mixes .exit) ≡ left fixed voice (lent (now (region0 .entry)) (now (region1 .entry)) (now (window .entry))
-        (now (voices .entry)) (now (lanes .entry)) (now (mixes .entry))) .mixes)
-        × (r .refused ≡ refused fixed voice (lent (now (region0 .entry)) (now (region1 .entry)) (now (window .entry))
-        (now (voices .entry)) (now (lanes .entry)) (now (mixes .entry)))) ⌝ }
+    ensures { λ r. ⌜ Ensured fixed voice (lent (now (region0 .entry)) (now (region1 .entry)) (now (window .entry))
+        (now (voices .entry)) (now (lanes .entry)) (now (mixes .entry)))
+        r (lent (now (region0 .exit)) (now (region1 .exit)) (now (window .entry))
+        (now (voices .exit)) (now (lanes .exit)) (now (mixes .exit))) ⌝ }
 {
     let number = lengths_number(
         fixed,

@@ -30,7 +30,7 @@ use Rattle.turns.specs.Turns.{State, LongAt}
 use Rattle.turns.proofs.Begun.{first-not-0, some-number, each-formed, room, all-voices, still-fitting}
 use Rattle.turns.proofs.Turns.{memoryOf}
 use Rattle.voices.specs.Inner.{AllFormed}
-use Rattle.voices.specs.Tick.{left, RefusedBy}
+use Rattle.voices.specs.Tick.{left, RefusedBy, Ensured}
 use Rattle.voices.proofs.Turns.{st, after, in-turn}
 
 stays : (n : ℕ) (fx : Fixed) (x : Lent) → (n ≡ 0 → ⊥) → leaves n fx x ≡ x
@@ -54,10 +54,8 @@ module _ (fx : Fixed) (r0 r1 w : List ℕ) (ys : List Voice) (lanes mixes : List
   bad = some (malformed (laneLength (length lanes))) ys
 
   -- what is ensured
-  abbrev pub Ensured : Returned → List Voice → List ℕ → List ℕ → List ℤ → List ℤ → Type 0
-  Ensured r zs s0 s1 ls ms =
-      (r .number ≡ wholeNumber fx x) × (zs ≡ left fx x .memory .records) × (s0 ≡ left fx x .memory .region0)
-      × (s1 ≡ left fx x .memory .region1) × (ls ≡ left fx x .memory .lanes) × (ms ≡ left fx x .mixes) × RefusedBy fx x (r .refused)
+  abbrev pub Leaves : Returned → List Voice → List ℕ → List ℕ → List ℤ → List ℤ → Type 0
+  Leaves r zs s0 s1 ls ms = Ensured fx x r (lent s0 s1 w zs ls ms)
 
   number-is : wholeNumber fx x ≡ orElse code (cond bad 7 0)
   unfolding wholeNumber lengths
@@ -66,7 +64,7 @@ module _ (fx : Fixed) (r0 r1 w : List ℕ) (ys : List Voice) (lanes mixes : List
   -- ---- refused as a whole
 
   refused-with : (n : ℕ) → wholeNumber fx x ≡ n → (n ≡ 0 → ⊥) → (r : Returned) → r ≡ returned n (listed [])
-      → Ensured r ys r0 r1 lanes mixes
+      → Leaves r ys r0 r1 lanes mixes
   refused-with n is not0 r e =
       let same : x ≡ left fx x = sym (stays (wholeNumber fx x) fx x (λ z. not0 (sym is ∙ z))) in (
         ap (λ (a : Returned). a .number) e ∙ sym is,
@@ -86,12 +84,12 @@ module _ (fx : Fixed) (r0 r1 w : List ℕ) (ys : List Voice) (lanes mixes : List
         },
       )
 
-  pub refused-call : (r : Returned) (k : ℕ) → k ≡ code → T (not (eqb k 0)) → r ≡ returned k (listed []) → Ensured r ys r0 r1 lanes mixes
+  pub refused-call : (r : Returned) (k : ℕ) → k ≡ code → T (not (eqb k 0)) → r ≡ returned k (listed []) → Leaves r ys r0 r1 lanes mixes
   refused-call r k is held e =
       let not0 : k ≡ 0 → ⊥ = some-number k held in
       refused-with k (number-is ∙ first-not-0 code (cond bad 7 0) (λ z. not0 (is ∙ z)) ∙ sym is) not0 r e
 
-  pub malformed-call : (r : Returned) → code ≡ 0 → bad ≡ true → r ≡ returned 7 (listed []) → Ensured r ys r0 r1 lanes mixes
+  pub malformed-call : (r : Returned) → code ≡ 0 → bad ≡ true → r ≡ returned 7 (listed []) → Leaves r ys r0 r1 lanes mixes
   malformed-call r zero-is is e =
       refused-with 7
       (number-is ∙ ap (λ (n : ℕ). orElse n (cond bad 7 0)) zero-is ∙ ap (λ (b : Bool). orElse 0 (cond b 7 0)) is)
@@ -162,7 +160,7 @@ module _ (fx : Fixed) (r0 r1 w : List ℕ) (ys : List Voice) (lanes mixes : List
 
       pub served-call : (t : Turn) (zs : List Voice) (s0 s1 : List ℕ) (ls ms : List ℤ) → t ≡ last .turn → zs ≡ last .voices
           → s0 ≡ last .region0 → s1 ≡ last .region1 → ls ≡ last .lanes → ms ≡ last .mixes
-          → (r : Returned) → r ≡ returned 0 (t .refused) → Ensured r zs s0 s1 ls ms
+          → (r : Returned) → r ≡ returned 0 (t .refused) → Leaves r zs s0 s1 ls ms
       served-call t zs s0 s1 ls ms et ez e0 e1 el em r e = (
         ap (λ (a : Returned). a .number) e ∙ sym number-0,
         ez ∙ ap (λ (y : Memory). y .records) memory-is,

@@ -8,6 +8,7 @@ use Rattle.stems.specs.Whole.{Listed, leaves}
 use Rattle.stems.specs.declared.Fixed.{Fixed}
 use Rattle.calls.specs.Refused.{listed}
 use Rattle.calls.specs.declared.refused.Refused.{Refused}
+use Rattle.calls.specs.declared.refused.Returned.{Returned}
 
 -- what the call leaves of what is lent to it: "nothing written" where its number is not 0, and else each voice's answer, put where its own lies
 abbrev pub left : Fixed → Lent → Lent
@@ -18,3 +19,10 @@ pub record RefusedBy (fx : Fixed) (x : Lent) (given : Refused) : Type 0 where
   pub list : List Refusal
   pub is : given ≡ listed list
   pub holds : Listed fx x list
+
+-- what `tick` ensures of what it is lent, of what it gives back, and of what was lent to it as it leaves it
+abbrev pub Ensured : Fixed → Lent → Returned → Lent → Type 0
+Ensured fx x r after =
+    (r .number ≡ wholeNumber fx x) × (after .memory .records ≡ left fx x .memory .records)
+    × (after .memory .region0 ≡ left fx x .memory .region0) × (after .memory .region1 ≡ left fx x .memory .region1)
+    × (after .memory .lanes ≡ left fx x .memory .lanes) × (after .mixes ≡ left fx x .mixes) × RefusedBy fx x (r .refused)

@@ -15,13 +15,12 @@ use voice::record::Voice;
 ghost use mathlib.Core.Path.{_≡_};
 ghost use Prim.Native.Nat.{ℕ, _<_};
 ghost use lib.ListN.{length};
-ghost use Rattle.stems.specs.Call.{wholeNumber};
 ghost use Rattle.stems.specs.Memory.{VOICES, laneLength};
 ghost use Rattle.calls.specs.Begin.{Fitting};
 ghost use Rattle.calls.specs.Lent.{lent};
 ghost use Rattle.turns.specs.Turns.{LongAt};
 ghost use Rattle.voices.specs.Inner.{AllFormed, ticked};
-ghost use Rattle.voices.specs.Tick.{left, RefusedBy};
+ghost use Rattle.voices.specs.Tick.{Ensured};
 
 // Gives each voice its turn, voice 0 first.
 fn serve_all(
@@ -81,20 +80,10 @@ pub fn tick(
     lanes: &mut [i16],
     mixes: &mut [i32],
 ) -> Returned
-    ensures { λ r. ⌜ (r .number ≡ wholeNumber fixed (lent (now (region0 .entry)) (now (region1 .entry)) (now (window .entry))
-        (now (voices .entry)) (now (lanes .entry)) (now (mixes .entry))))
-        × (now (voices .exit) ≡ left fixed (lent (now (region0 .entry)) (now (region1 .entry)) (now (window .entry))
-        (now (voices .entry)) (now (lanes .entry)) (now (mixes .entry))) .memory .records)
-        × (now (region0 .exit) ≡ left fixed (lent (now (region0 .entry)) (now (region1 .entry)) (now (window .entry))
-        (now (voices .entry)) (now (lanes .entry)) (now (mixes .entry))) .memory .region0)
-        × (now (region1 .exit) ≡ left fixed (lent (now (region0 .entry)) (now (region1 .entry)) (now (window .entry))
-        (now (voices .entry)) (now (lanes .entry)) (now (mixes .entry))) .memory .region1)
-        × (now (lanes .exit) ≡ left fixed (lent (now (region0 .entry)) (now (region1 .entry)) (now (window .entry))
-        (now (voices .entry)) (now (lanes .entry)) (now (mixes .entry))) .memory .lanes)
-        × (now (mixes .exit) ≡ left fixed (lent (now (region0 .entry)) (now (region1 .entry)) (now (window .entry))
-        (now (voices .entry)) (now (lanes .entry)) (now (mixes .entry))) .mixes)
-        × RefusedBy fixed (lent (now (region0 .entry)) (now (region1 .entry)) (now (window .entry))
-        (now (voices .entry)) (now (lanes .entry)) (now (mixes .entry))) (r .refused) ⌝ }
+    ensures { λ r. ⌜ Ensured fixed (lent (now (region0 .entry)) (now (region1 .entry)) (now (window .entry))
+        (now (voices .entry)) (now (lanes .entry)) (now (mixes .entry)))
+        r (lent (now (region0 .exit)) (now (region1 .exit)) (now (window .entry))
+        (now (voices .exit)) (now (lanes .exit)) (now (mixes .exit))) ⌝ }
 {
     let number = lengths_number(
         fixed,

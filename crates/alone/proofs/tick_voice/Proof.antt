@@ -88,7 +88,7 @@ use Rattle.turns.proofs.Begun.{begins}
 use Rattle.turns.proofs.Steps.{is-true, is-false, no-refusal}
 use mathlib.Core.Bool.{cond}
 use Rattle.stems.specs.Call.{orElse}
-use Rattle.alone.proofs.Contract.{Ensured, start-of, goes-on, refused-call, late-call, served-call}
+use Rattle.alone.proofs.Contract.{Leaves, start-of, goes-on, refused-call, late-call, served-call}
 use Rattle.turns.proofs.Again.{LentAgain, lends-again, comes-back}
 use Rattle.turns.proofs.Shared.{LentShared, lends-shared, shared-back}
 use Rattle.calls.proofs.refusal.lengths_number as lengths-number
@@ -321,7 +321,7 @@ module _ {M : Type 1} (𝓤 : URA M) (H : Heap 𝓤) (A : Atoms 𝓤) (W : Given
 
   -- what is ensured
   abbrev Says : Returned → List Voice → List ℕ → List ℕ → List ℤ → List ℤ → Type 0
-  Says r zs-vs zs-region0 zs-region1 zs-lanes zs-mixes = Ensured fixed voice ls-region0 ls-region1 (window .now) ys ls-lanes
+  Says r zs-vs zs-region0 zs-region1 zs-lanes zs-mixes = Leaves fixed voice ls-region0 ls-region1 (window .now) ys ls-lanes
       ls-mixes r zs-vs zs-region0 zs-region1 zs-lanes zs-mixes
 
   abbrev Post : Val → SProp 𝓤

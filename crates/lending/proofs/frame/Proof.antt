@@ -90,7 +90,7 @@ use Rattle.lending.proofs.Framed.Laws as F′
 use Rattle.stems.specs.Call.{wholeNumber}
 use Rattle.calls.specs.Lent.{lent}
 use Rattle.voices.specs.Tick.{left, RefusedBy}
-use Rattle.voices.proofs.Contract.{Ensured}
+use Rattle.voices.proofs.Contract.{Leaves}
 use Rattle.voices.proofs.tick as tick
 use Rattle.voices.proofs.tick.Symbol as tick-def
 use Rattle.voices.proofs.tick.Symbol.{name as #voices·tick}
@@ -393,7 +393,7 @@ module _ {M : Type 1} (𝓤 : URA M) (H : Heap 𝓤) (A : Atoms 𝓤) (W : Given
     Last = Lasts tick.ended (ν ∷ [], (κ, (κ₁, (κ₂, (κ₃, (κ₄, tt)))))) passed
 
     abbrev Says : Returned → Last → Type 0
-    Says r ws = Ensured fixed (region0 .now) (region1 .now) (window .now) front (lanes .now) (mixes .now) r (ws .0) (ws .1 .1 .0)
+    Says r ws = Leaves fixed (region0 .now) (region1 .now) (window .now) front (lanes .now) (mixes .now) r (ws .0) (ws .1 .1 .0)
         (ws .1 .1 .1 .0) (ws .1 .1 .1 .1 .1 .0) (ws .1 .1 .1 .1 .1 .1 .0)
 
   module _ (zs : List Voice) (k : Returned) where

@@ -89,7 +89,7 @@ use Rattle.lending.proofs.Framed.Laws as F′
 use Rattle.stems.specs.Call.{aloneNumber}
 use Rattle.calls.specs.Lent.{lent}
 use Rattle.alone.specs.TickVoice.{left, refused}
-use Rattle.alone.proofs.Contract.{Ensured}
+use Rattle.alone.proofs.Contract.{Leaves}
 use Rattle.alone.proofs.tick_voice as tick-voice
 use Rattle.alone.proofs.tick_voice.Symbol as tick-voice-def
 use Rattle.alone.proofs.tick_voice.Symbol.{name as #alone·tick-voice}
@@ -424,7 +424,7 @@ module _ {M : Type 1} (𝓤 : URA M) (H : Heap 𝓤) (A : Atoms 𝓤) (W : Given
     Last = Lasts tick-voice.ended (ν ∷ [], (κ, (κ₁, (κ₂, (κ₃, (κ₄, tt)))))) passed
 
     abbrev Says : Returned → Last → Type 0
-    Says r ws = Ensured fixed voice (region0 .now) (region1 .now) (window .now) front (lanes .now) (mixes .now) r (ws .0) (ws .1
+    Says r ws = Leaves fixed voice (region0 .now) (region1 .now) (window .now) front (lanes .now) (mixes .now) r (ws .0) (ws .1
         .1 .1 .0) (ws .1 .1 .1 .1 .0) (ws .1 .1 .1 .1 .1 .1 .0) (ws .1 .1 .1 .1 .1 .1 .1 .0)
 
   module _ (zs : List Voice) (k : Returned) where

@@ -87,7 +87,7 @@ use Rattle.calls.specs.Refused.{listed, returned}
 use Rattle.calls.specs.Begin.{beginning, lengthsCode}
 use Rattle.turns.proofs.Begun.{begins}
 use Rattle.turns.proofs.Steps.{is-true, is-false, no-refusal}
-use Rattle.voices.proofs.Contract.{Ensured, goes-on, refused-call, malformed-call, served-call}
+use Rattle.voices.proofs.Contract.{Leaves, goes-on, refused-call, malformed-call, served-call}
 use Rattle.turns.proofs.Again.{LentAgain, lends-again, comes-back}
 use Rattle.turns.proofs.Shared.{LentShared, lends-shared, shared-back}
 use Rattle.calls.proofs.refusal.lengths_number as lengths-number
@@ -293,7 +293,7 @@ module _ {M : Type 1} (𝓤 : URA M) (H : Heap 𝓤) (A : Atoms 𝓤) (W : Given
 
   -- what is ensured
   abbrev Says : Returned → List Voice → List ℕ → List ℕ → List ℤ → List ℤ → Type 0
-  Says r zs-vs zs-region0 zs-region1 zs-lanes zs-mixes = Ensured fixed ls-region0 ls-region1 (window .now) ys ls-lanes ls-mixes r
+  Says r zs-vs zs-region0 zs-region1 zs-lanes zs-mixes = Leaves fixed ls-region0 ls-region1 (window .now) ys ls-lanes ls-mixes r
       zs-vs zs-region0 zs-region1 zs-lanes zs-mixes
 
   abbrev Post : Val → SProp 𝓤
