@@ -1,8 +1,9 @@
-//! whole calls, for all voices and of the mixer, frame after frame, and the
-//! jobs of the program run_calls. the oracle's side is the source's voices
-//! and mixer over one memory.
+//! whole calls, for all voices, of the mixer and for one voice alone, frame
+//! after frame, and the jobs of the program run_calls. the oracle's side is
+//! the source's voices and mixer over one memory.
 
 use std::mem::{swap, take};
+use std::ops::Range;
 
 use zakuro_core::memory::{Memory, Window};
 use zakuro_core::services::dsp_mixer::Mixer;
@@ -17,6 +18,7 @@ use crate::{COUNTERS, Mixing, Random, floats, layout};
 /// kinds of a job of run_calls.
 pub const KIND_VOICES: u32 = 0;
 pub const KIND_MIXER: u32 = 1;
+pub const KIND_ALONE: u32 = 2;
 
 /// bytes of what an answer begins with, before the memory.
 pub const ANSWER: usize = 708;
@@ -34,7 +36,8 @@ pub struct Call {
     pub times: u32,
     pub offsets: [u32; 7],
     pub base: u32,
-    pub read: u32,
+    /// the region that the mixer reads, or the voice that is served alone.
+    pub which: u32,
     pub state: State,
     pub records: Vec<Vec<u8>>,
     pub regions: [Vec<u8>; 2],
@@ -64,10 +67,10 @@ fn words(values: &[i32]) -> Vec<u8> {
 impl Call {
     /// as the program reads it.
     pub fn bytes(&self) -> Vec<u8> {
-        let Call { kind, times, offsets, base, read, state, records, regions, window, lanes, mixes } = self;
+        let Call { kind, times, offsets, base, which, state, records, regions, window, lanes, mixes } = self;
         let lengths = [records.len(), regions[0].len(), regions[1].len(), window.len(), lanes.len(), mixes.len()];
         let mut job = Vec::new();
-        let head = [*kind, *times].into_iter().chain(*offsets).chain([*base, *read]);
+        let head = [*kind, *times].into_iter().chain(*offsets).chain([*base, *which]);
         job.extend(head.flat_map(u32::to_le_bytes));
         job.extend(state);
         job.extend(lengths.into_iter().flat_map(|length| (length as u32).to_le_bytes()));
@@ -77,7 +80,8 @@ impl Call {
         job
     }
 
-    /// document 01's numbers 1 to 7 of the call for all voices.
+    /// document 01's numbers 1 to 7 of the calls for voices, and 10 of the one
+    /// for a voice alone.
     pub fn number(&self) -> u8 {
         let [first, second] = &self.regions;
         let lane = self.lanes.len() / VOICES;
@@ -86,6 +90,7 @@ impl Call {
             0 if self.records.len() != VOICES || self.lanes.len() != VOICES * lane || lane > 65_536 => 5,
             0 if self.mixes.len() != VALUES => 6,
             0 if self.records.iter().any(|record| malformed(record, lane as u32)) => 7,
+            0 if self.kind == KIND_ALONE && self.which as usize >= VOICES => 10,
             number => number,
         }
     }
@@ -149,13 +154,14 @@ impl Returned {
 }
 
 /// frames of 24 voices and the mixer, one after the other.
+#[derive(Clone)]
 pub struct Capture {
-    runs: Vec<Run>,
-    memory: Memory,
+    pub(crate) runs: Vec<Run>,
+    pub(crate) memory: Memory,
     voices: Voices,
     mixer: Mixer,
-    offsets: [u32; 7],
-    random: Random,
+    pub(crate) offsets: [u32; 7],
+    pub(crate) random: Random,
     read: usize,
 }
 
@@ -268,13 +274,15 @@ impl Capture {
         state
     }
 
-    fn call(&self, kind: u32, mixes: Vec<i32>) -> Call {
+    /// a call on what there is, with the region read last for what it takes
+    /// beside.
+    pub fn call(&self, kind: u32, mixes: Vec<i32>) -> Call {
         Call {
             kind,
             times: 1,
             offsets: self.offsets,
             base: self.memory.phys.base,
-            read: self.read as u32,
+            which: self.read as u32,
             state: if kind == KIND_MIXER { self.state() } else { [0; 16] },
             records: self.runs.iter().map(|run| run.record.clone()).collect(),
             regions: self.memory.regions.clone(),
@@ -287,41 +295,63 @@ impl Capture {
     /// the call for all voices, with noise in the mix buffer, and what it
     /// comes to on the oracle's side.
     pub fn serve(&mut self) -> (Call, Returned) {
+        let call = self.noisy(KIND_VOICES);
+        let returned = self.tick(0..VOICES);
+        (call, returned)
+    }
+
+    /// the same for one voice alone: the others are kept out of the tick, as
+    /// those that are refused.
+    pub fn serve_alone(&mut self, voice: usize) -> (Call, Returned) {
+        let call = Call { which: voice as u32, ..self.noisy(KIND_ALONE) };
+        let returned = self.tick(voice..voice + 1);
+        (call, returned)
+    }
+
+    fn noisy(&mut self, kind: u32) -> Call {
         let mixes = (0..VALUES).map(|_| self.random.word() as i32).collect();
-        let call = self.call(KIND_VOICES, mixes);
+        self.call(kind, mixes)
+    }
+
+    /// what a call that serves these voices comes to.
+    fn tick(&mut self, served: Range<usize>) -> Returned {
         let layout = self.layout();
         self.read = current_region(&mut self.memory, layout) as usize;
         let read = self.read;
-        let mut refused = Vec::new();
-        let mut kept = Vec::new();
+        let (mut refused, mut kept, mut playing) = (Vec::new(), Vec::new(), Vec::new());
         for index in 0..VOICES {
-            let number = self.number(index);
-            (self.runs[index].number, self.runs[index].read) = (number, read);
-            if number != 0 {
+            if served.contains(&index) {
+                let number = self.number(index);
+                (self.runs[index].number, self.runs[index].read) = (number, read);
+                if number == 0 {
+                    self.decodes(index);
+                    self.voices.probe_swap(index, &mut self.runs[index].stage.player);
+                    playing.push(index);
+                    continue;
+                }
                 refused.push([index as u8, number]);
-                kept.push(self.keep(index));
-                continue;
             }
-            self.on_stage(index, |run| {
-                let mut lane = take(&mut run.lane);
-                run.stage.decodes(&mut lane);
-                run.lane = lane;
-            });
-            self.voices.probe_swap(index, &mut self.runs[index].stage.player);
+            kept.push(self.keep(index));
         }
         let mixes = flat(self.voices.tick(&mut self.memory, layout));
-        for (index, run) in self.runs.iter_mut().enumerate() {
-            if run.number == 0 {
-                self.voices.probe_swap(index, &mut run.stage.player);
-                run.record = record_of(&run.stage.player.voice());
-            }
+        for index in playing {
+            let run = &mut self.runs[index];
+            self.voices.probe_swap(index, &mut run.stage.player);
+            run.record = record_of(&run.stage.player.voice());
         }
         for (index, configuration, status) in kept {
             self.put_back(index, &configuration, &status);
         }
-        let left = self.call(KIND_VOICES, mixes);
-        let returned = Returned { refused, ..left.refused(0) };
-        (call, returned)
+        Returned { refused, ..self.call(KIND_VOICES, mixes).refused(0) }
+    }
+
+    /// what a voice's frame decodes goes into its lane.
+    fn decodes(&mut self, index: usize) {
+        self.on_stage(index, |run| {
+            let mut lane = take(&mut run.lane);
+            run.stage.decodes(&mut lane);
+            run.lane = lane;
+        });
     }
 
     /// 0, 20 or 21.
@@ -337,8 +367,9 @@ impl Capture {
         job.number()
     }
 
-    /// a voice that is refused stays out of the tick: its configuration says
-    /// meanwhile that nothing is new. gives what is to come back.
+    /// a voice that is refused, or not to be served, stays out of the tick: its
+    /// configuration says meanwhile that nothing is new. gives what is to come
+    /// back.
     fn keep(&mut self, index: usize) -> (usize, Vec<u8>, Vec<u8>) {
         let read = self.read;
         self.on_stage(index, |run| {

@@ -143,6 +143,11 @@ pub fn voice_of(record: &[u8]) -> ProbeVoice {
     }
 }
 
+/// how many samples a record says are decoded.
+pub fn decoded(record: &[u8]) -> usize {
+    read32(record, 236) as usize
+}
+
 fn put_entry(entry: &ProbeBuffer, bytes: &mut [u8]) {
     put(bytes, 0, entry.address.to_le_bytes());
     put(bytes, 4, entry.length.to_le_bytes());

@@ -9,6 +9,7 @@ pub mod listing;
 mod mixing;
 pub mod playing;
 mod random;
+pub mod recording;
 pub mod serving;
 
 pub use adpcm::{Decode, EXTREMES, bytes_of};

@@ -115,6 +115,7 @@ const REGION: usize = LAYOUT.configurations as usize + VOICES * CONFIGURATION;
 
 /// the source's voices over memory. one of them is at hand; in its place and
 /// everywhere else stand voices as they begin, with nothing new for them.
+#[derive(Clone)]
 pub struct Stage {
     pub index: usize,
     pub player: ProbePlayer,
@@ -235,7 +236,7 @@ impl Stage {
     }
 }
 
-pub(crate) fn part(from: u32, size: usize, index: usize) -> Range<usize> {
+pub fn part(from: u32, size: usize, index: usize) -> Range<usize> {
     let at = from as usize + size * index;
     at..at + size
 }
@@ -247,6 +248,7 @@ pub(crate) fn flat(mixes: [QuadFrame; 3]) -> Vec<i32> {
 /// frames of one voice, one after the other: on the oracle's side the stage;
 /// for the port what stands there, with a record of its own, which may hold
 /// something where no mark and no count reaches.
+#[derive(Clone)]
 pub struct Run {
     pub stage: Stage,
     random: Random,

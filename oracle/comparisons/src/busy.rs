@@ -114,7 +114,7 @@ fn write(mixing: &Mixing, voices: &[ProbeVoice], window: Vec<u8>, times: u32) ->
         times,
         offsets: mixing.offsets,
         base: BASE,
-        read: 0,
+        which: 0,
         state,
         records: voices.iter().map(record_of).collect(),
         regions: mixing.memory.regions.clone(),

@@ -19,6 +19,7 @@ mod mixer;
 mod play;
 mod port;
 mod region;
+mod run_calls;
 mod served;
 mod stream;
 mod voice;
