@@ -21,6 +21,7 @@ mod port;
 mod region;
 mod run_calls;
 mod served;
+mod stems;
 mod stream;
 mod voice;
 mod window;
@@ -36,7 +37,7 @@ use cases::Random;
 type Comparison = fn(&mut Random, usize) -> Result<u64, String>;
 
 /// each with how many random inputs are few.
-const COMPARISONS: [(&str, Comparison, usize); 13] = [
+const COMPARISONS: [(&str, Comparison, usize); 14] = [
     ("region", region::compare, 100_000),
     ("dsp32", dsp32::compare, 100_000),
     ("window", window::compare, 100_000),
@@ -50,6 +51,7 @@ const COMPARISONS: [(&str, Comparison, usize); 13] = [
     ("play", play::compare, 2_000),
     ("voice", voice::compare, 2_000),
     ("calls", calls::compare, 100),
+    ("stems", stems::compare, 8),
 ];
 
 /// the oracle's answer and the port's are the same, or the input is told.
