@@ -1,8 +1,10 @@
-//! whole calls, for all voices and of the mixer, for the program run_calls:
-//! numbers 1 to 7 and frames of captures, and at the end a job of no kind.
+//! whole calls, for all voices, of the mixer and for one voice alone, for the
+//! program run_calls: numbers 1 to 7 and 10, frames of captures, and at the
+//! end a job of no kind.
 
 use cases::Random;
-use cases::calling::{Call, Capture, Returned};
+use cases::calling::{Call, Capture, KIND_ALONE, Returned};
+use zakuro_core::services::dsp_voices::VOICES;
 
 use crate::Replay;
 
@@ -50,6 +52,51 @@ fn refusals(replay: &mut Replay) {
     call.mixes = whole.mixes.clone();
     call.records[23][228] = 65;
     refused(replay, &call, 7);
+    // another voice's record, and no such voice
+    (call.kind, call.which) = (KIND_ALONE, 0);
+    refused(replay, &call, 7);
+    call.which = 24;
+    refused(replay, &call, 7);
+    call.records = whole.records.clone();
+    refused(replay, &call, 10);
+}
+
+fn heard(returned: &Returned) -> bool {
+    returned.mixes.iter().any(|value| *value != 0)
+}
+
+fn refused_by(returned: &Returned, number: u8) -> bool {
+    returned.refused.iter().any(|[_, by]| *by == number)
+}
+
+/// what a voice may come to that is served alone.
+type Kind = fn(&Call, &Returned) -> bool;
+
+/// it decodes; it is heard and decodes nothing; it is not heard; 20; 21.
+const ALONE: [Kind; 5] = [
+    |call, returned| heard(returned) && returned.lanes != call.lanes,
+    |call, returned| heard(returned) && returned.lanes == call.lanes,
+    |_, returned| returned.refused.is_empty() && !heard(returned),
+    |_, returned| refused_by(returned, 20),
+    |_, returned| refused_by(returned, 21),
+];
+
+/// calls for one voice alone, of each kind the first in a capture, the last
+/// voice first.
+fn alone(replay: &mut Replay) {
+    let mut capture = Capture::sized(Random::new(1), WINDOW, LANE);
+    let mut wanted = ALONE.to_vec();
+    while !wanted.is_empty() {
+        capture.before();
+        for voice in (0..VOICES).rev() {
+            let (call, returned) = capture.clone().serve_alone(voice);
+            if let Some(kind) = wanted.iter().position(|kind| kind(&call, &returned)) {
+                wanted.remove(kind);
+                add(replay, &call, &returned);
+            }
+        }
+        capture.serve();
+    }
 }
 
 pub fn calls() -> Replay {
@@ -65,7 +112,7 @@ pub fn calls() -> Replay {
             let [(_, returned)] = &frames;
             let mixed = capture.mix(&returned.mixes);
             // the last, and the first in which a voice is refused by 20
-            let by_20 = returned.refused.iter().any(|[_, number]| *number == 20);
+            let by_20 = refused_by(returned, 20);
             if frame < FRAMES && (full || !by_20) {
                 continue;
             }
@@ -75,6 +122,7 @@ pub fn calls() -> Replay {
         }
     }
     assert!(!numbers.contains(&0), "no voice is refused by 20, or none by 21: {numbers:?}");
+    alone(&mut replay);
     let (call, _) = Capture::sized(Random::new(9), 0, 0).serve();
     replay.stdin.extend(&Call { kind: 9, ..call }.bytes()[..84]);
     replay.stdout.extend([255, 2]);
