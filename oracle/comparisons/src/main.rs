@@ -51,7 +51,7 @@ const COMPARISONS: [(&str, Comparison, usize); 14] = [
     ("play", play::compare, 2_000),
     ("voice", voice::compare, 2_000),
     ("calls", calls::compare, 100),
-    ("stems", stems::compare, 8),
+    ("stems", stems::compare, 6),
 ];
 
 /// the oracle's answer and the port's are the same, or the input is told.

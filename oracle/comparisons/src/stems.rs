@@ -84,7 +84,7 @@ fn frames(port: &mut Port, seed: u64, met: &mut Met) -> Result<(), String> {
         met.written(&whole.call, writes);
         let before = whole.oracle.read();
         let all = whole.frame(port, writes).map_err(|told| format!("frame {frame}, the whole run: {told}"))?;
-        let mut parts = Vec::new();
+        let mut mixes = Vec::new();
         for (voice, stem) in stems.iter_mut().enumerate() {
             let alone = stem.frame(port, writes).and_then(|alone| {
                 agree(voice, &all, &alone)?;
@@ -92,10 +92,10 @@ fn frames(port: &mut Port, seed: u64, met: &mut Met) -> Result<(), String> {
                 Ok(alone)
             });
             let alone = alone.map_err(|told| format!("frame {frame}, the stem of voice {voice}: {told}"))?;
-            parts.push(alone.left.mixes);
+            mixes.push(alone.left.mixes);
         }
-        met.wrapped += summed(&all.left.mixes, &parts).map_err(|told| format!("frame {frame}, {told}"))? as u64;
-        met.count(&all.left, &parts, whole.oracle.read(), before);
+        met.wrapped += summed(&all.left.mixes, &mixes).map_err(|told| format!("frame {frame}, {told}"))? as u64;
+        met.count(&all.left, &mixes, whole.oracle.read(), before);
     }
     Ok(())
 }
@@ -124,26 +124,27 @@ fn number(left: &Returned, voice: usize) -> u8 {
 /// the whole run and the stem run of a voice hold the same for it after a
 /// frame.
 fn agree(voice: usize, whole: &Frame, stem: &Frame) -> Result<(), String> {
-    let [(all, left), (call, alone)] = [whole, stem].map(|frame| (&frame.given, &frame.left));
-    alike("the number of a call is not 0", [0, 0], [left.number, alone.number])?;
-    if left.records[voice] != alone.records[voice] {
-        let [whole, stem] = [left, alone].map(|left| voice_of(&left.records[voice]));
+    let (call, [whole, stem]) = (&whole.given, [whole, stem].map(|frame| &frame.left));
+    if [whole.number, stem.number] != [0, 0] {
+        return Err(format!("the whole run's call returns {}, the stem run's {}", whole.number, stem.number));
+    }
+    if whole.records[voice] != stem.records[voice] {
+        let [whole, stem] = [whole, stem].map(|left| voice_of(&left.records[voice]));
         return Err(format!("the record\nwhole run: {whole:?}\nstem run:  {stem:?}"));
     }
-    alike("the lane", &left.lanes[lane(all, voice)], &alone.lanes[lane(call, voice)])?;
+    alike("the lane", &whole.lanes[lane(call, voice)], &stem.lanes[lane(call, voice)])?;
     for region in 0..2 {
         for (what, part) in parts(call, voice) {
-            let [left, alone] = [left, alone].map(|left| &left.regions[region][part.clone()]);
-            alike(&format!("the {what} in region {region}"), left, alone)?;
+            let [whole, stem] = [whole, stem].map(|left| &left.regions[region][part.clone()]);
+            alike(&format!("the {what} in region {region}"), whole, stem)?;
         }
     }
-    alike("the refusal number", number(left, voice), number(alone, voice))?;
-    let listed = match number(alone, voice) {
+    alike("the refusal number", number(whole, voice), number(stem, voice))?;
+    let listed = match number(stem, voice) {
         0 => Vec::new(),
         number => vec![[voice as u8, number]],
     };
-    same!(listed, alone.refused, "the list of a stem run");
-    Ok(())
+    if stem.refused == listed { Ok(()) } else { Err(format!("the stem run's list is {:?}", stem.refused)) }
 }
 
 /// a stem run leaves all that is not the voice's own.
