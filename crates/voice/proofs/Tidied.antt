@@ -1,17 +1,19 @@
 -- The laws of tidying: how long a tidied queue and tidied ramps are and what stands at a place of them; a tidied voice is blank where it
 -- must be, and a voice that is so is left alone. Assumes nothing.
-use Prim.Native.Nat.{ℕ, zero, suc, _/_, _<_, _≤_}
+use Prim.Native.Nat.{ℕ, zero, suc, _+_, _-_, _/_, _<_, _≤_}
 use mathlib.Core.Bool.{Bool, true, false, cond}
-use mathlib.Core.List.{List}
+use mathlib.Core.List.{List, _++_}
 use mathlib.Core.Logic.{_⊎_, inl, inr}
 use mathlib.Core.Path.{_≡_, refl, sym, ap, _∙_, subst}
 use lib.Dec.{ltb}
 use lib.Ieee.{Float}
-use lib.ListN.{length, getD, replicate, List·getD-eq-default}
-use lib.Seq.{ext-getD}
+use lib.ListN.{length, take, drop, getD, replicate, length-drop, length-replicate, getD-replicate, take-append-drop}
+use lib.ListN.{List·getD-eq-default}
+use lib.Seq.{getD-drop, ext-getD}
 use native.Mathlib.Omega.{arith}
 use borrow.Author.Tests.{lt-ltb, le-ltb, ltb-true, ltb-false}
 use Rattle.lists.proofs.Bools.{cond-yes, cond-no}
+use Rattle.lists.proofs.Fill.{Filling}
 use Rattle.lists.proofs.Tabulate.{length-tabulate, getD-tabulate}
 use Rattle.lists.proofs.Walk.{below-or}
 use Rattle.adpcm.specs.declared.History.{History}
@@ -52,9 +54,13 @@ unfolding tidyUnder
 under-off on e h = cond-no (tidyEntry e) blankEntry h
 
 -- a queued entry, tidied
+pub front-at :
+    (n : ℕ) (queue : List Entry) (k : ℕ) → k < n → k < places → getD (tidyQueue n queue) k blankEntry ≡ tidyEntry (getD queue k blankEntry)
+front-at n queue k h l = queue-at n queue k blankEntry l ∙ under-on (ltb k n) (getD queue k blankEntry) (lt-ltb k n h)
+
 pub queued-at :
     (n : ℕ) (queue : List Entry) (k : ℕ) → k < n → n ≤ places → getD (tidyQueue n queue) k blankEntry ≡ tidyEntry (getD queue k blankEntry)
-queued-at n queue k h l = queue-at n queue k blankEntry (omega arith) ∙ under-on (ltb k n) (getD queue k blankEntry) (lt-ltb k n h)
+queued-at n queue k h l = front-at n queue k h (omega arith)
 
 -- past the count, also past the queue's end
 past-at : (n : ℕ) (queue : List Entry) (k : ℕ) → n ≤ k → getD (tidyQueue n queue) k blankEntry ≡ blankEntry
@@ -63,6 +69,27 @@ past-at n queue k h = by (below-or k places)
     by : (k < places) ⊎ (places ≤ k) → getD (tidyQueue n queue) k blankEntry ≡ blankEntry
     by (inl l) = queue-at n queue k blankEntry l ∙ under-off (ltb k n) (getD queue k blankEntry) (le-ltb k n h)
     by (inr g) = List·getD-eq-default (tidyQueue n queue) blankEntry {n = k} (omega (arith, length-queue n queue))
+
+-- blank entries that are filled from the front, as far as entries are queued: the places behind are blank already
+pub rest-blank : (n : ℕ) (queue now : List Entry) (i : ℕ) → ((k : ℕ) → i ≤ k → k < places → n ≤ k)
+    → Filling (tidyQueue n queue) (replicate places blankEntry) now i → now ≡ tidyQueue n queue
+rest-blank n queue now i far f =
+    f .stored ∙ ap (λ (r : List Entry). take i (tidyQueue n queue) ++ r) rest ∙ take-append-drop i (tidyQueue n queue)
+  where
+    old : List Entry
+    old = replicate places blankEntry
+
+    at : (k : ℕ) → i + k < places → getD (drop i old) k blankEntry ≡ getD (drop i (tidyQueue n queue)) k blankEntry
+    at k h =
+        getD-drop i old k blankEntry ∙ getD-replicate places (i + k) blankEntry blankEntry h
+        ∙ sym (past-at n queue (i + k) (far (i + k) (omega arith) h)) ∙ sym (getD-drop i (tidyQueue n queue) k blankEntry)
+
+    rest : drop i old ≡ drop i (tidyQueue n queue)
+    rest =
+        let long : length old ≡ places = length-replicate places blankEntry in
+        ext-getD blankEntry (drop i old) (drop i (tidyQueue n queue))
+        (length-drop i old ∙ ap (λ (m : ℕ). m - i) (long ∙ sym (length-queue n queue)) ∙ sym (length-drop i (tidyQueue n queue)))
+        (λ k b. at k (omega (arith, length-drop i old, long, b)))
 
 -- ---- a tidied voice is blank where it must be
 

@@ -37,15 +37,18 @@ pub fn tidy_under(on: bool, e: Entry) -> Entry
     blank_entry()
 }
 
+// The entries that are queued stay, behind them blank ones stand from the start.
 fn tidy_queue(v: Voice) -> Voice
     ensures { λ r. ⌜ r ≡ set-voice-queue (tidyQueue (v .queued) (v .queue)) v ⌝ }
 {
     let n = v.queued;
-    let mut q = v.queue;
+    let given = v.queue;
+    let b = blank_entry();
+    let mut q = [b; PLACES];
     let mut i: usize = 0;
-    while i < PLACES {
-        let e = q[i];
-        let t = tidy_under(i < n, e);
+    while i < PLACES && i < n {
+        let e = given[i];
+        let t = tidy_entry(e);
         q[i] = t;
         i += 1;
     }

@@ -1,31 +1,43 @@
--- `voice::tidy::tidy_queue` meets its contract: the loop fills the queue from the front. Assumes nothing.
-use Prim.Native.Nat.{_-_, _<_}
+-- `voice::tidy::tidy_queue` meets its contract: the loop fills a queue of blank entries from the front, as far as entries are queued.
+-- Assumes nothing.
+use Prim.Native.Nat.{ℕ, _-_, _≤_, _<_}
 use mathlib.Core.List.{List}
-use mathlib.Core.Path.{_≡_, sym, _∙_, ap}
-use lib.Dec.{ltb}
-use lib.ListN.{length}
+use mathlib.Core.Logic.{⊎-elim}
+use mathlib.Core.Path.{_≡_, sym, _∙_, ap, subst}
+use lib.ListN.{length, replicate, length-replicate}
 use native.Mathlib.Omega.{arith}
-use Rattle.lists.proofs.Fill.{Filling, filling-none, filling-more, filling-next, filling-all}
+use borrow.Author.Tests.{ltb-true, ltb-false}
+use Rattle.lists.proofs.Fill.{Filling, filling-none, filling-more}
 use Rattle.voice.specs.declared.record.Entry.{Entry}
 use Rattle.voice.specs.Blank.{places, blankEntry}
 use Rattle.voice.specs.Set.{set-voice-queue}
-use Rattle.voice.specs.Tidy.{tidyUnder, tidyQueue}
-use Rattle.voice.proofs.Lengths.{queue-places}
-use Rattle.voice.proofs.Tidied.{length-queue, queue-at}
+use Rattle.voice.specs.Tidy.{tidyQueue}
+use Rattle.voice.proofs.Tidied.{length-queue, front-at, rest-blank}
 use Rattle.voice.proofs.tidy.tidy_queue.Statement.{statement}
 use Rattle.voice.proofs.tidy.tidy_queue.Tie as tie
 
 abbrev Inv-loop : tie.InvT-loop
-Inv-loop v n q₀ i₀ q i = Filling (tidyQueue n q₀) q₀ q i
+Inv-loop v n given q₀ i₀ q i = Filling (tidyQueue n given) (replicate places blankEntry) q i
 
 abbrev μ-loop : tie.MeasureT-loop
-μ-loop v n q₀ i₀ q i = places - i
+μ-loop v n given q₀ i₀ q i = places - i
 
-same : (c : tie.Start Inv-loop μ-loop) → length (tidyQueue (c .args .v .queued) (c .args .v .queue)) ≡ length (c .args .v .queue)
-same c = length-queue (c .args .v .queued) (c .args .v .queue) ∙ sym (queue-places (c .args .v) (c .good .0))
+-- where the loop ends, what lies behind is past the count: every entry was seen, or every place
+far-queued : (n i : ℕ) → n ≤ i → (k : ℕ) → i ≤ k → k < places → n ≤ k
+far-queued n i h k l b = omega arith
+
+far-full : (n i : ℕ) → places ≤ i → (k : ℕ) → i ≤ k → k < places → n ≤ k
+far-full n i h k l b = absurd (omega arith)
+
+blank-entry-requires : tie.Need-blank-entry-requires Inv-loop μ-loop
+blank-entry-requires c κs = tt
 
 loop-holds : tie.Need-loop-holds Inv-loop μ-loop
-loop-holds c = let v = c .before .args .v in filling-none (tidyQueue (v .queued) (v .queue)) (v .queue)
+loop-holds c =
+    let v = c .before .before .args .v in
+    subst (λ (b : Entry). Filling (tidyQueue (v .queued) (v .queue)) (replicate places blankEntry) (replicate places b) 0)
+    (sym (c .blank-entry .ensures))
+    (filling-none (tidyQueue (v .queued) (v .queue)) (replicate places blankEntry))
 
 mul-e : tie.Need-mul-e Inv-loop μ-loop
 mul-e c = omega arith
@@ -33,8 +45,8 @@ mul-e c = omega arith
 array-copy-out-e : tie.Need-array-copy-out-e Inv-loop μ-loop
 array-copy-out-e c = omega arith
 
-tidy-under-requires : tie.Need-tidy-under-requires Inv-loop μ-loop
-tidy-under-requires c κs = tt
+tidy-entry-requires : tie.Need-tidy-entry-requires Inv-loop μ-loop
+tidy-entry-requires c κs = tt
 
 mul-q : tie.Need-mul-q Inv-loop μ-loop
 mul-q c = omega arith
@@ -51,24 +63,23 @@ loop-less c = omega arith
 loop-again : tie.Need-loop-again Inv-loop μ-loop
 unfolding blankEntry
 loop-again c =
-    let l = c .before .before .before .loop in
-    let s = c .before .before .before .before .before in
-    let n = s .args .v .queued in
-    let old = s .args .v .queue in
+    let l = c .before .before .before .before .loop in
+    let v = c .before .before .before .before .before .before .before .args .v in
     let h : l .i < places = omega arith in
-    filling-more (tidyQueue n old) old (l .q) (l .i) (c .tidy-under .result) blankEntry (same s)
-    (omega (arith, queue-places (s .args .v) (s .good .0))) (l .inv)
-    (c .tidy-under .ensures
-    ∙ ap (λ (e : Entry). tidyUnder (ltb (l .i) n) e) (filling-next (tidyQueue n old) old (l .q) (l .i) blankEntry (same s) (l .inv))
-    ∙ sym (queue-at n old (l .i) blankEntry h))
+    let queued : l .i < v .queued = ltb-true (l .i) (v .queued) (c .before .before .if1 .taken) in
+    filling-more (tidyQueue (v .queued) (v .queue)) (replicate places blankEntry) (l .q) (l .i) (c .tidy-entry .result) blankEntry
+    (length-queue (v .queued) (v .queue) ∙ sym (length-replicate places blankEntry))
+    (omega (arith, length-replicate places blankEntry)) (l .inv)
+    (c .tidy-entry .ensures ∙ sym (front-at (v .queued) (v .queue) (l .i) queued h))
 
 returns : tie.Need-returns Inv-loop μ-loop
 returns c =
     let l = c .before .loop in
-    let s = c .before .before .before in
-    let v = s .args .v in
+    let v = c .before .before .before .before .args .v in
     ap (λ (q : List Entry). set-voice-queue q v)
-    (filling-all (tidyQueue (v .queued) (v .queue)) (v .queue) (l .q) (l .i) (same s) (omega (arith, queue-places v (s .good .0))) (l .inv))
+    (rest-blank (v .queued) (v .queue) (l .q) (l .i)
+    (⊎-elim (λ t. far-queued (v .queued) (l .i) (ltb-false (l .i) (v .queued) (t .1 .left))) (λ t. far-full (v .queued) (l .i) (t .left))
+    (c .loop-test .came)) (l .inv))
 
 pub tidy-queue-spec : {M : Type 1} → statement M
 tidy-queue-spec =
@@ -76,10 +87,11 @@ tidy-queue-spec =
     (tie.spec
     Inv-loop
     μ-loop
+    blank-entry-requires
     loop-holds
     mul-e
     array-copy-out-e
-    tidy-under-requires
+    tidy-entry-requires
     mul-q
     array-set-from-q
     add-i
