@@ -78,7 +78,9 @@ const SCENES: [(&str, &[usize]); 6] = [
 ];
 
 /// whether there is such a scene; `jobs-N` writes the jobs of the port for N
-/// frames, and N alone serves and mixes N on the source's side.
+/// frames, `refused-N` a job of N calls that are refused with 6, the first
+/// test after the records are lent, and N alone serves and mixes N on the
+/// source's side.
 pub fn run(what: &str, side: &str, play: &Play, filters: &ProbeFilters) -> Result<bool, String> {
     let Some((_, kinds)) = SCENES.into_iter().find(|(name, _)| *name == what) else {
         return Ok(false);
@@ -86,7 +88,7 @@ pub fn run(what: &str, side: &str, play: &Play, filters: &ProbeFilters) -> Resul
     let coefficients = voice_of(&play.record).coefficients;
     let voices: Vec<ProbeVoice> =
         (0..VOICES).map(|index| part(kinds[index % kinds.len()], filters, coefficients)).collect();
-    let (jobs, times) = side.strip_prefix("jobs-").map_or((false, side), |times| (true, times));
+    let (which, times) = side.rsplit_once('-').unwrap_or(("source", side));
     let times = times.parse().map_err(|_| format!("not a number: {times}"))?;
     let (offsets, end) = packed(ORDER, [0; 7]);
     let mut region = vec![0; end as usize];
@@ -95,15 +97,14 @@ pub fn run(what: &str, side: &str, play: &Play, filters: &ProbeFilters) -> Resul
     let window = play.window[..WINDOW].to_vec();
     let mut mixing = Mixing::new(offsets, regions.clone(), 0);
     (mixing.volume, mixing.switches) = ([1.0, 0.5, 0.25], [true, true, false]);
-    if jobs {
-        write(&mixing, &voices, window, times)?;
-    } else {
-        frames(&mixing, voices, window, times);
+    match which {
+        "source" => frames(&mixing, voices, window, times),
+        _ => write(&mixing, &voices, window, times, which == "refused")?,
     }
     Ok(true)
 }
 
-fn write(mixing: &Mixing, voices: &[ProbeVoice], window: Vec<u8>, times: u32) -> Result<(), String> {
+fn write(mixing: &Mixing, voices: &[ProbeVoice], window: Vec<u8>, times: u32, refused: bool) -> Result<(), String> {
     let mut state = [0; 16];
     for (part, volume) in state.as_chunks_mut().0.iter_mut().zip(mixing.volume) {
         *part = volume.to_bits().to_le_bytes();
@@ -120,10 +121,10 @@ fn write(mixing: &Mixing, voices: &[ProbeVoice], window: Vec<u8>, times: u32) ->
         regions: mixing.memory.regions.clone(),
         window,
         lanes: vec![0; VOICES * LANE],
-        mixes: (0..VALUES).map(|value| value as i32 * 7 - 6000).collect(),
+        mixes: (refused as usize..VALUES).map(|value| value as i32 * 7 - 6000).collect(),
     };
     let mix = Call { kind: KIND_MIXER, records: Vec::new(), window: Vec::new(), lanes: Vec::new(), ..call.clone() };
-    let jobs = [call.bytes(), mix.bytes()].concat();
+    let jobs = if refused { call.bytes() } else { [call.bytes(), mix.bytes()].concat() };
     io::stdout().write_all(&jobs).map_err(|error| error.to_string())
 }
 
