@@ -1,5 +1,6 @@
--- `voice_frame::serve::serve` meets its contract: refused, nothing was changed; served, each step gave its part of the frame. A record
--- stays well-formed through its configuration. Assumes nothing.
+-- `voice_frame::serve::serve` meets its contract: with a zero dirty word the record is the one that came; refused, nothing was changed;
+-- served, the frame is that of the record that the configuration left. A record stays well-formed through its configuration. Assumes
+-- nothing.
 use denote.Ref.{now}
 use mathlib.Core.Path.{_≡_, sym, ap, _∙_, subst}
 use mathlib.Core.List.{List}
@@ -9,25 +10,24 @@ use lib.ListN.{length}
 use Rattle.voice.specs.Malformed.{WellFormed}
 use Rattle.voice.specs.declared.record.Voice.{Voice}
 use Rattle.voice.proofs.Formed.{not-malformed-formed, formed-not-malformed}
-use Rattle.status.specs.Status.{statusOf}
+use Rattle.settings.specs.Dirty.{dirtyIn}
 use Rattle.config.specs.Parsed.{configured}
 use Rattle.config.specs.declared.parse.Configured.{Configured}
 use Rattle.config_laws.proofs.Formed.{keeps-formed}
-use Rattle.config_laws.proofs.Refused.{refused-untouched}
-use Rattle.voice_frame.specs.VoiceFrame.{Fed, Answer, fed, number, given, numberOf, voiceAfter, laneAfter}
-use Rattle.voice_frame.specs.VoiceFrame.{configurationAfter, statusAfter, mixesAfter, partsOf, mixedWith, left, sounding}
-use Rattle.voice_frame.specs.VoiceFrame.{soundingLane}
-use Rattle.voice_frame.proofs.Answers.{refuses, serves}
-use Rattle.voice_frame.proofs.Bytes.{bytes-long}
+use Rattle.config_laws.proofs.Refused.{refused-untouched, clean-unchanged}
+use Rattle.voice_frame.specs.VoiceFrame.{Fed, Answer, fed, number, numberOf, voiceAfter, laneAfter}
+use Rattle.voice_frame.specs.VoiceFrame.{configurationAfter, statusAfter, mixesAfter}
+use Rattle.voice_frame.proofs.Answers.{refuses, number-served, voice-served, lane-served, bytes-served, mixes-served}
+use Rattle.voice_frame.proofs.Answers.{status-served}
 use borrow.Author.Needs.{needs}
 use Rattle.voice_frame.proofs.serve.serve.Statement.{statement}
 use Rattle.voice_frame.proofs.serve.serve.Tie as tie
 
--- ---- what the configuration came to
+-- ---- what the frame is fed
 
-module _ (c : tie.After-configure) where
+module _ (r : tie.After-read32) where
   abbrev start : tie.Start
-  start = c .before .before .before .before .before .before
+  start = r .before .before .before .before .before .before
 
   abbrev v : Voice
   v = start .args .v
@@ -38,102 +38,135 @@ module _ (c : tie.After-configure) where
   abbrev f : Fed
   f = fed v old (now (start .args .bytes)) (now (start .args .coefficients)) (now (start .args .window)) (start .args .base)
 
-  is-number : c .configure .result .number ≡ number f
-  is-number = ap (λ (d : Configured). d .number) (c .configure .ensures .0)
+-- ---- nothing is new
 
-  is-voice :
-      c .configure .result .voice ≡ configured (f .configuration) (f .coefficients) (f .voice) (length (f .lane)) .voice
-  is-voice = ap (λ (d : Configured). d .voice) (c .configure .ensures .0)
+read32-requires : tie.Need-read32-requires
+read32-requires c κs = search needs
 
-  formed : WellFormed (length old) (c .configure .result .voice)
-  formed =
-      subst (WellFormed (length old)) (sym is-voice)
-      (not-malformed-formed (length old) _
-      (keeps-formed (f .configuration) (f .coefficients) v (length old) (formed-not-malformed (length old) v (start .pre .0))))
-
-configure-requires : tie.Need-configure-requires
-configure-requires c κs = search needs
+frame-of-requires : tie.Need-frame-of-requires
+frame-of-requires c κs = search needs
 
 same-length : tie.Need-same-length
 same-length c = search needs
 
+same-length-2 : tie.Need-same-length-2
+same-length-2 c = search needs
+
+same-length-3 : tie.Need-same-length-3
+same-length-3 c = search needs
+
+same-length-4 : tie.Need-same-length-4
+same-length-4 c = search needs
+
 returns : tie.Need-returns
 returns c =
-    let d = c .before .before .before .before in
-    let not0 : number (f d) ≡ 0 → ⊥ = λ z. omega (arith, c .if1 .taken, is-number d, z) in
-    let r = refuses (f d) not0 in
-    let stays = refused-untouched (f d .configuration) (f d .coefficients) (v d) (length (old d)) not0 in (
-      is-number d ∙ sym (ap numberOf r),
+    let k = c .before .before .before .before in
+    let t = k .before .before .before .before in
+    let r = t .before in
+    let zero : dirtyIn (f r .configuration) ≡ 0 = sym (r .read32 .ensures) ∙ t .if1 .taken in
+    let clean = clean-unchanged (f r .configuration) (f r .coefficients) (v r) (length (old r)) zero in
+    let done = clean .served in (
+      k .frame-of .ensures .0 ∙ number-served (f r) (v r) done,
       (
-        sym (ap (λ (a : Answer). voiceAfter a (v d)) r),
+        k .frame-of .ensures .1 .0 ∙ voice-served (f r) (v r) done,
         (
-          sym (ap (λ (a : Answer). laneAfter a (old d)) r),
+          k .frame-of .ensures .1 .1 .0 ∙ lane-served (f r) (v r) done,
           (
-            d .configure .ensures .1 ∙ stays .bytes-stay ∙ sym (ap (λ (a : Answer). configurationAfter a (f d .configuration)) r),
+            sym (clean .bytes-stay) ∙ bytes-served (f r) (v r) done,
             (
-              sym (ap (λ (a : Answer). mixesAfter a (now (start d .args .mixes))) r),
-              sym (ap (λ (a : Answer). statusAfter a (now (start d .args .report))) r),
+              k .frame-of .ensures .1 .1 .1 .0 ∙ mixes-served (f r) (v r) done (now (start r .args .mixes)),
+              k .frame-of .ensures .1 .1 .1 .1 ∙ status-served (f r) (v r) done (now (start r .args .report)),
             ),
           ),
         ),
       ),
     )
 
-sound-requires : tie.Need-sound-requires
-sound-requires c κs =
-    let d = c .before .before .before .before .before .before in
-    (formed d, start d .pre .1 .0)
+-- ---- what the configuration came to
 
-mix-into-requires : tie.Need-mix-into-requires
-mix-into-requires c κs = start (c .before .before .before .before .before .before .before .before .before) .pre .1 .1 .1 .1 .0
+module _ (c : tie.After-configure) where
+  abbrev read : tie.After-read32
+  read = c .before .before .before
 
-write-status-requires : tie.Need-write-status-requires
-write-status-requires c κs =
-    let m = c .before .before in
-    start (m .before .before .before .before .before .before .before .before .before .before) .pre .1 .1 .1 .1 .1
+  abbrev settled : Voice
+  settled = c .configure .result .voice
 
-leave-requires : tie.Need-leave-requires
-leave-requires c κs = search needs
+  is-number : c .configure .result .number ≡ number (f read)
+  is-number = ap (λ (d : Configured). d .number) (c .configure .ensures .0)
 
-same-length-2 : tie.Need-same-length-2
-same-length-2 c = search needs
+  formed : WellFormed (length (old read)) settled
+  formed =
+      subst (WellFormed (length (old read))) (sym (ap (λ (d : Configured). d .voice) (c .configure .ensures .0)))
+      (not-malformed-formed (length (old read)) _
+      (keeps-formed (f read .configuration) (f read .coefficients) (v read) (length (old read))
+      (formed-not-malformed (length (old read)) (v read) (start read .pre .0))))
 
-same-length-3 : tie.Need-same-length-3
-same-length-3 c =
-    let e = c .before .before .before .before .before .before .before .before .before .before .before .before in
-    let d = e .before .before .before .before in
-    ap length (d .configure .ensures .1) ∙ bytes-long (f d .configuration) (f d .coefficients) (v d) (length (old d))
-
-same-length-4 : tie.Need-same-length-4
-same-length-4 c = search needs
+configure-requires : tie.Need-configure-requires
+configure-requires c κs = search needs
 
 same-length-5 : tie.Need-same-length-5
 same-length-5 c = search needs
 
 returns-2 : tie.Need-returns-2
-unfolding given
 returns-2 c =
-    let w = c .before .before .before in
-    let m = w .before .before .before in
-    let s = m .before .before .before in
-    let e = s .before .before .before in
-    let d = e .before .before .before .before in
-    let r = serves (f d) (omega (arith, is-number d, e .if1 .left)) in
-    let here = s .sound .ensures .0
-    ∙ ap (λ (u : Voice). sounding (f d .window) (f d .base) u (old d)) (is-voice d) in (
-      sym (ap numberOf r),
+    let d = c .before .before .before .before in
+    let r = read d in
+    let not0 : number (f r) ≡ 0 → ⊥ = λ z. omega (arith, c .if2 .taken, is-number d, z) in
+    let a = refuses (f r) not0 in
+    let stays = refused-untouched (f r .configuration) (f r .coefficients) (v r) (length (old r)) not0 in (
+      is-number d ∙ sym (ap numberOf a),
       (
-        c .leave .ensures ∙ ap left here ∙ sym (ap (λ (a : Answer). voiceAfter a (v d)) r),
+        sym (ap (λ (b : Answer). voiceAfter b (v r)) a),
         (
-          s .sound .ensures .1 ∙ ap (λ (u : Voice). soundingLane (f d .window) (f d .base) u (old d)) (is-voice d)
-              ∙ sym (ap (λ (a : Answer). laneAfter a (old d)) r),
+          sym (ap (λ (b : Answer). laneAfter b (old r)) a),
           (
-            d .configure .ensures .1 ∙ sym (ap (λ (a : Answer). configurationAfter a (f d .configuration)) r),
+            d .configure .ensures .1 ∙ stays .bytes-stay ∙ sym (ap (λ (b : Answer). configurationAfter b (f r .configuration)) a),
             (
-              m .mix-into .ensures ∙ ap (λ (u : Voice). mixedWith (partsOf u) (now (start d .args .mixes))) here
-                  ∙ sym (ap (λ (a : Answer). mixesAfter a (now (start d .args .mixes))) r),
-              w .write-status .ensures ∙ ap statusOf here
-                  ∙ sym (ap (λ (a : Answer). statusAfter a (now (start d .args .report))) r),
+              sym (ap (λ (b : Answer). mixesAfter b (now (start r .args .mixes))) a),
+              sym (ap (λ (b : Answer). statusAfter b (now (start r .args .report))) a),
+            ),
+          ),
+        ),
+      ),
+    )
+
+frame-of-requires-2 : tie.Need-frame-of-requires-2
+frame-of-requires-2 c κs =
+    let d = c .before .before .before .before .before .before .before .before in
+    let p = start (read d) .pre .1 in
+    (formed d, (p .0, p .1 .1 .1))
+
+same-length-6 : tie.Need-same-length-6
+same-length-6 c = search needs
+
+same-length-7 : tie.Need-same-length-7
+same-length-7 c = search needs
+
+same-length-8 : tie.Need-same-length-8
+same-length-8 c = search needs
+
+same-length-9 : tie.Need-same-length-9
+same-length-9 c = search needs
+
+returns-3 : tie.Need-returns-3
+returns-3 c =
+    let k = c .before .before .before .before in
+    let e = k .before .before .before .before .before in
+    let d = e .before .before .before .before in
+    let r = read d in
+    let u = settled d in
+    let done : configured (f r .configuration) (f r .coefficients) (v r) (length (old r)) ≡ record { number = 0; voice = u }
+    = sym (d .configure .ensures .0) ∙ (λ j. record { number = e .if2 .left j; voice = u }) in (
+      k .frame-of2 .ensures .0 ∙ number-served (f r) u done,
+      (
+        k .frame-of2 .ensures .1 .0 ∙ voice-served (f r) u done,
+        (
+          k .frame-of2 .ensures .1 .1 .0 ∙ lane-served (f r) u done,
+          (
+            d .configure .ensures .1 ∙ bytes-served (f r) u done,
+            (
+              k .frame-of2 .ensures .1 .1 .1 .0 ∙ mixes-served (f r) u done (now (start r .args .mixes)),
+              k .frame-of2 .ensures .1 .1 .1 .1 ∙ status-served (f r) u done (now (start r .args .report)),
             ),
           ),
         ),
@@ -144,15 +177,19 @@ pub serve-spec : {M : Type 1} → statement M
 serve-spec =
     tie.close
     (tie.spec
-    configure-requires
+    read32-requires
+    frame-of-requires
     same-length
-    returns
-    sound-requires
-    mix-into-requires
-    write-status-requires
-    leave-requires
     same-length-2
     same-length-3
     same-length-4
+    returns
+    configure-requires
     same-length-5
-    returns-2)
+    returns-2
+    frame-of-requires-2
+    same-length-6
+    same-length-7
+    same-length-8
+    same-length-9
+    returns-3)
