@@ -35,9 +35,11 @@ pub fn memory(random: &mut Random, replay: &mut Replay) {
         region(random.word() as u16, random.word() as u16);
     }
 
-    memory.write_bytes(0, &[0x01, 0x00, 0x45, 0x23]);
+    let by_hand = [0x01, 0x00, 0x45, 0x23];
+    memory.write_bytes(0, &by_hand);
     assert_eq!(probe_read_dsp32(&mut memory, 0), 74565);
-    for word in WORDS.into_iter().chain((0..150).map(|_| random.word() as u32)) {
+    let words = [u32::from_le_bytes(by_hand)].into_iter().chain(WORDS);
+    for word in words.chain((0..150).map(|_| random.word() as u32)) {
         memory.write32(0, word);
         replay.number(READ_DSP32, [word.into(), 0, 0], probe_read_dsp32(&mut memory, 0).into());
         probe_write_dsp32(&mut memory, 0, word);

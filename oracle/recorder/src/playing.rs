@@ -226,6 +226,15 @@ fn lengthened(jobs: &mut Jobs) {
     voice.fraction = 0.5;
     lengthen(&mut voice, 4);
     heard(&jobs.pcm(&voice, &[10, 20, 30, 50]), &[40, 50]);
+    // 0 to 100 at 1.5: at a rate of 2.5 the last sample of an entry leaves
+    // that fraction, and the entry goes on with it once it is longer
+    let mut voice = amid(entry(Pcm16, 1), 0);
+    voice.rate = 2.5;
+    let mut after = jobs.pcm(&voice, &[7, 0, 100]);
+    heard(&after, &[7]);
+    assert_eq!((after.remaining, after.fraction, after.enabled), (0, 1.5, true));
+    lengthen(&mut after, 3);
+    heard(&jobs.pcm(&after, &[7, 0, 100]), &[150]);
 }
 
 /// where an entry begins.

@@ -71,6 +71,16 @@ fn decode_wrapped() {
     assert_eq!(samples, [-32768]);
 }
 
+/// the listing that document 01 prints, of the input that the program
+/// decode_listing is run on.
+#[test]
+fn listing() {
+    let input = include_bytes!("../../../crates/decode_listing/stdin");
+    let output = include_bytes!("../../../crates/decode_listing/stdout");
+    assert_eq!(cases::listing::listed(input), output);
+    assert_eq!(cases::listing::listed(&input[1..]), b"       9\n");
+}
+
 #[test]
 fn interpolation() {
     assert_eq!(probe_lerp([0; 2], [-3, 100], 0.5), [-1, 50]);
