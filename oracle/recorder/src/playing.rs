@@ -107,7 +107,7 @@ pub fn playing(random: &mut Random, replay: &mut Replay) {
 /// how frames begin and end, and which entry is next.
 fn frames(jobs: &mut Jobs) {
     // a silent dequeue, also of what the frame held; then nothing is queued
-    // and the voice goes off (reading 41: the frame is cleared)
+    // and the voice goes off, its frame cleared
     let mut voice = waiting(&[entry(Pcm16, 3)]);
     voice.frame = [[9; 2]; FRAME_SAMPLES];
     let after = jobs.pcm(&voice, &[1, 2, 3]);
@@ -138,8 +138,7 @@ fn frames(jobs: &mut Jobs) {
     heard(&after, &[2; 160]);
     assert_eq!(after.queue, [named(7, 0), ProbeBuffer { has_played: true, ..looping }]);
 
-    // reading 14: position, id and update mark are the last dequeue's; 160
-    // of them
+    // position, id and update mark are the last dequeue's; 160 of them
     let last = ProbeBuffer { play_position: 1, address: BASE + 4, id: 8, ..entry(Pcm16, 3) };
     let after = jobs.pcm(&before(&[last, entry(Pcm16, 2)]), &[1, 2, 3, 4, 5]);
     heard(&after, &[1, 2, 4, 5]);
@@ -153,8 +152,8 @@ fn frames(jobs: &mut Jobs) {
 
 /// steps through an entry.
 fn steps(jobs: &mut Jobs) {
-    // reading 1: at half the rate, with and without interpolation; a rate
-    // past all; the smallest
+    // at half the rate, with and without interpolation; a rate past all; the
+    // smallest
     let mut voice = amid(entry(Pcm16, 4), 0);
     voice.rate = 0.5;
     heard(&jobs.pcm(&voice, &[0, 100, 200, 300]), &[0, 50, 100, 150, 200, 250, 300, 300]);
@@ -169,9 +168,9 @@ fn steps(jobs: &mut Jobs) {
     heard(&after, &[7; 160]);
     assert_eq!((after.remaining, after.fraction), (4, 160.0 * 5e-324));
 
-    // reading 9: a fraction of 1 or more goes past the second sample, to the
-    // ends of 16 bits; between equal ones it stays, but if it is infinite
-    // (reading 33: infinity and -0.0 are taken)
+    // a fraction of 1 or more goes past the second sample, to the ends of 16
+    // bits; between equal ones it stays, but if it is infinite; infinity and
+    // -0.0 are taken
     for (fraction, samples, sample) in [
         (1.5, [0, 100], 150),
         (1.5, [0, 30_000], 32_767),
@@ -191,8 +190,7 @@ fn steps(jobs: &mut Jobs) {
     heard(&after, &[-3, 100]);
     assert_eq!(after.fraction.to_bits(), 0);
 
-    // reading 46: the place is by the record's length, the last sample by
-    // the entry's
+    // the place is by the record's length, the last sample by the entry's
     let mut voice = amid(entry(Pcm16, 3), 0);
     (voice.length, voice.remaining) = (6, 2);
     let after = jobs.pcm(&voice, &[1, 2, 3, 4, 5, 6]);
@@ -200,7 +198,7 @@ fn steps(jobs: &mut Jobs) {
     assert_eq!(after.position, 4);
 }
 
-/// reading 8: lengthening.
+/// lengthening.
 fn lengthened(jobs: &mut Jobs) {
     // to less than was played: nothing remains, the voice goes off
     let mut voice = amid(entry(Pcm16, 4), 3);
@@ -239,23 +237,23 @@ fn lengthened(jobs: &mut Jobs) {
 
 /// where an entry begins.
 fn begun(jobs: &mut Jobs) {
-    // reading 10: at the play position, and the next time at 0
+    // at the play position, and the next time at 0
     let round = ProbeBuffer { looping: true, play_position: 2, ..entry(Pcm16, 4) };
     let after = jobs.pcm(&before(&[round.clone()]), &[1, 2, 3, 4]);
     let rest = [1, 2, 3, 4].repeat(40);
     heard(&after, &[&[3, 4][..], &rest[..158]].concat());
-    // reading 11: begun at its end it gives its last sample, and its fraction
-    // is dropped by the next dequeue
+    // begun at its end it gives its last sample, and its fraction is dropped
+    // by the next dequeue
     let late = ProbeBuffer { play_position: 9, ..entry(Pcm16, 4) };
     let mut voice = before(&[late.clone(), ProbeBuffer { id: 6, ..entry(Pcm16, 2) }]);
     voice.rate = 1.5;
     heard(&jobs.pcm(&voice, &[1, 2, 3, 4]), &[4, 1, 2]);
-    // reading 12: the same in a silent frame is never heard
+    // the same in a silent frame is never heard
     let after = jobs.pcm(&waiting(&[late]), &[1, 2, 3, 4]);
     heard(&after, &[]);
     assert_eq!((after.position, after.remaining, after.enabled), (4, 0, true));
-    // reading 13: of length 0, PCM gives its first sample, 0 where that is
-    // absent, and ADPCM 0, whatever the lane holds
+    // of length 0, PCM gives its first sample, 0 where that is absent, and
+    // ADPCM 0, whatever the lane holds
     heard(&jobs.pcm(&before(&[entry(Pcm16, 0)]), &[11, 22]), &[11]);
     heard(&jobs.pcm(&before(&[entry(Pcm8, 0)]), &[11, 22]), &[11 * 256]);
     heard(&jobs.pcm(&before(&[entry(Pcm16, 0)]), &[]), &[0]);
@@ -266,8 +264,8 @@ fn begun(jobs: &mut Jobs) {
 
 /// ADPCM.
 fn decoded(jobs: &mut Jobs) {
-    // reading 15: of two in a frame, the first's tail stays in the lane past
-    // the second's count
+    // of two in a frame, the first's tail stays in the lane past the second's
+    // count
     let first = [NIBBLES, [0, 0x23, 0x45, 0x67, 0, 0, 0, 0]].concat();
     let second = [0, 0x56, 0x70, 0, 0, 0, 0, 0];
     let then = ProbeBuffer { address: BASE + 16, id: 6, ..entry(Adpcm, 3) };
@@ -279,15 +277,15 @@ fn decoded(jobs: &mut Jobs) {
     assert_eq!(after.frame[14..24].iter().map(|pair| pair[0]).collect::<Vec<_>>(), [2, 3, 4, 5, 6, 7, 5, 6, 7, 0]);
     assert_eq!(after.history, [7, 6]);
 
-    // reading 16: the mark sets the history with a PCM entry, and with ADPCM
-    // whose bytes are absent
+    // the mark sets the history with a PCM entry, and with ADPCM whose bytes
+    // are absent
     let marked = |format| ProbeBuffer { adpcm: Some([-3, 8]), ..entry(format, 2) };
     assert_eq!(jobs.pcm(&before(&[marked(Pcm16)]), &[1, 2]).history, [-3, 8]);
     let (after, _) = jobs.at(&before(&[marked(Adpcm)]), BASE, &[], &[1; 4]);
     heard(&after, &[]);
     assert_eq!((after.history, after.decoded.len()), ([-3, 8], 0));
 
-    // reading 17: one sample wants its whole frame of 8 bytes
+    // one sample wants its whole frame of 8 bytes
     let (after, lane) = jobs.at(&before(&[entry(Adpcm, 1)]), BASE, &NIBBLES[..7], &[99; 4]);
     heard(&after, &[0]);
     assert_eq!((after.decoded.len(), lane), (0, vec![99; 4]));
@@ -295,8 +293,8 @@ fn decoded(jobs: &mut Jobs) {
     heard(&after, &[1]);
     assert_eq!((after.decoded, lane), (vec![1], vec![1, 99, 99, 99]));
 
-    // reading 22: an entry that comes round is decoded anew, whatever was
-    // written into the lane
+    // an entry that comes round is decoded anew, whatever was written into
+    // the lane
     let round = ProbeBuffer { looping: true, has_played: true, ..entry(Adpcm, 3) };
     let mut voice = amid(round.clone(), 3);
     voice.queue.push(round);
@@ -305,7 +303,7 @@ fn decoded(jobs: &mut Jobs) {
     heard(&after, &[]);
     assert_eq!((after.decoded, lane), (vec![1, -1, 7], vec![1, -1, 7, 99]));
 
-    // reading 23: the stereo mark is nothing to ADPCM
+    // the stereo mark is nothing to ADPCM
     let stereo = ProbeBuffer { stereo: true, ..entry(Adpcm, 3) };
     let (after, _) = jobs.at(&before(&[stereo]), BASE, &NIBBLES, &[99; 4]);
     heard(&after, &[1, -1, 7]);
@@ -321,15 +319,15 @@ fn decoded(jobs: &mut Jobs) {
 
 /// bytes outside the window.
 fn absent(jobs: &mut Jobs) {
-    // reading 18: a stereo sample with one channel inside is absent
+    // a stereo sample with one channel inside is absent
     let stereo = |format| ProbeBuffer { stereo: true, ..entry(format, 2) };
     let (after, _) = jobs.at(&before(&[stereo(Pcm16)]), BASE, &bytes(&[1, 2, 3]), &[]);
     assert_eq!(after.frame[..3], [[1, 2], [0, 0], [0, 0]]);
     let (after, _) = jobs.at(&before(&[stereo(Pcm8)]), BASE, &[1, 2, 3], &[]);
     assert_eq!(after.frame[..3], [[256, 512], [0, 0], [0, 0]]);
 
-    // reading 19: partly absent; past 2^32 from the end of memory to its
-    // start; an index whose place passes 2^32; low bits of the address
+    // partly absent; past 2^32 from the end of memory to its start; an index
+    // whose place passes 2^32; low bits of the address
     heard(&jobs.pcm(&before(&[entry(Pcm16, 4)]), &[1, 2]), &[1, 2, 0, 0]);
     let high = ProbeBuffer { address: u32::MAX - 3, ..entry(Pcm16, 4) };
     heard(&jobs.at(&before(&[high.clone()]), 0, &bytes(&[5, 6, 7]), &[]).0, &[0, 0, 5, 6]);
