@@ -1,13 +1,20 @@
-// Answers jobs for the oracle: whole calls, for all voices, of the mixer and for one voice alone. call_jobs tells a job's form and its
+// Answers jobs for the oracle: whole calls, for all voices, of the mixer and for one voice alone. `jobs` tells a job's form and its
 // answer's. Standard input holds jobs, one after the other, and what is answered goes to standard output; a bad job ends the program. stdin
 // and stdout are a fixed list that oracle/record wrote.
-use call_jobs::LANES;
-use call_jobs::MIXES;
-use call_jobs::RECORDS;
-use call_jobs::REGION;
-use call_jobs::ROOM;
-use call_jobs::WINDOW;
-use call_jobs::answer;
+use crate::jobs::LANES;
+use crate::jobs::MIXES;
+use crate::jobs::RECORDS;
+use crate::jobs::REGION;
+use crate::jobs::ROOM;
+use crate::jobs::WINDOW;
+use crate::jobs::answer;
+
+mod bytes;
+mod jobs;
+mod mixer_calls;
+mod records;
+mod sound;
+mod voice_calls;
 
 // The memory is lent to every job. Nothing says that the input ends, so the turns are counted down.
 fn main() {

@@ -10,7 +10,7 @@ use zakuro_core::services::dsp_voices::{FRAME_SAMPLES, ProbeBuffer, ProbeFormat,
 use crate::Replay;
 
 /// bytes of the window and samples of the lane, the same in every job of the
-/// crate serve_answers.
+/// program run_voice.
 const WINDOW: usize = 512;
 const LANE: usize = 64;
 const FRAMES: usize = 10;
@@ -46,7 +46,7 @@ fn amid(sample: i16, queued: usize, gain: f32) -> Serve {
     serve
 }
 
-/// adds a frame as the crate serve_answers has it, with its number and what it
+/// adds a frame as the program run_voice has it, with its number and what it
 /// came to. its mixes begin with one number, its status with 255.
 fn add(replay: &mut Replay, serve: &Serve, number: u8, framed: &Framed) {
     let first = serve.lent.mixes[0];
