@@ -1,4 +1,5 @@
-# What the walks of the crates turns, voices, alone and lending are told: the functions over the slice of records, and what is known of each.
+# What the walks of the crates turns, voices, alone and lending are told: the functions over the slice of records, and what is known of
+# each.
 args = '{d} {n} {turn} {fixed} {region0} {region1} {window} {lanes} {mixes}'
 fitting = 'Fitting {fixed} (length {region0}) (length {region1}) (length {window}) (length {lanes}) (length {mixes})'
 long = 'LongAs (laneLength (length {lanes})) (answerTo {fixed} ({turn} .second) {n} {d} {region0} {region1} {window} {lanes})'
@@ -16,7 +17,8 @@ from_turns = {**homes, **{name: ('turns', '') for name in ('serve_at', 'any_malf
 muts = ('region0', 'region1', 'lanes', 'mixes')
 uses = ['use Rattle.stems.specs.Memory.{VOICES, laneLength}', 'use Rattle.voice.specs.Blank.{defaultVoice}',
     'use Rattle.voice.specs.Malformed.{WellFormed}', 'use Rattle.stems.specs.Inner.{LongAs}',
-    'use Rattle.calls.specs.Begin.{Fitting}', 'use Rattle.voice_turn.specs.Turn.{answerTo, takenBy, region0By, region1By, lanesBy, mixesBy}']
+    'use Rattle.calls.specs.Begin.{Fitting}',
+    'use Rattle.voice_turn.specs.Turn.{answerTo, takenBy, region0By, region1By, lanesBy, mixesBy}']
 cfg = dict(element_at=64,  # where the record lies in `Taken`
     big=True,  # an element has 1024 bytes or more
     homes=from_turns, crate='voices', specs='Inner', elem='Voice', served='Taken', zero='defaultVoice', state='State', serve='take_turn',
@@ -72,7 +74,8 @@ tick = guarded(cfg=cfg, fn='tick', uses=guard_uses + [
     tick_requires_proof=f'goes-on {given} zero-is good fresh fresh-long', tick_extra_types=[
         '(j : ℕ) → j < n → LongAt fixed (window .now) j (ticked fixed (window .now) j ys ls-region0 ls-region1 ls-lanes fresh begun)'],
     clause=f'Leaves {given} r zs-vs zs-region0 zs-region1 zs-lanes zs-mixes', refused_proof=
-    f'refused-call {given} {{r}} {{k}} {{k_is}} {{held}} {{e_r}}', malformed_proof=f'malformed-call {given} {{r}} zero-is ({{bad}}) {{e_r}}',
+    f'refused-call {given} {{r}} {{k}} {{k_is}} {{held}} {{e_r}}', malformed_proof=
+    f'malformed-call {given} {{r}} zero-is ({{bad}}) {{e_r}}',
     served_proof=f'served-call {given} zero-is good (e .6) ' + last)
 # the one for a voice alone
 alone_cfg = dict(cfg, homes={**from_turns, 'alone_number': ('calls', 'refusal')}, crate='alone', specs='TickVoice', names='left, refused',

@@ -1,5 +1,5 @@
--- Whole run and stems, of what `tick` and `tick_voice` give back and leave: `CallsCompared` is the claim of stems, `WholeAndStems`, with the
--- two contracts in the place of its calls, and `CallsRun` says that there are such runs. Assumes nothing: these are definitions and
+-- Whole run and stems, of what `tick` and `tick_voice` give back and leave: `CallsCompared` is the claim of stems, `WholeAndStems`, with
+-- the two contracts in the place of its calls, and `CallsRun` says that there are such runs. Assumes nothing: these are definitions and
 -- statements; `as-ensured`, `calls-compared` and `calls-run` of proofs/Runs.antt prove them.
 use mathlib.Core.Path.{_≡_}
 use Prim.Native.Nat.{ℕ, _<_}

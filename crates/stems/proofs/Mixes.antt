@@ -1,5 +1,5 @@
--- What one answer leaves of mixes: at each place the sum of what was there and what the voice adds, wrapped; from mixes of 0, what it adds. By
--- cases of the answer. Assumes nothing.
+-- What one answer leaves of mixes: at each place the sum of what was there and what the voice adds, wrapped; from mixes of 0, what it adds.
+-- By cases of the answer. Assumes nothing.
 use mathlib.Core.Path.{_≡_, sym, ap, _∙_}
 use mathlib.Core.List.{List}
 use Prim.Native.Nat.{ℕ, _<_}

@@ -110,7 +110,8 @@ module _
         let m = met k (omega arith) in
         let x = lent start frames outs k in
         write (suc k) h
-        (call x (scene fx v (start .memory) frames k) (outs k) m (serves k (omega arith) (m .memory .typed) (accepted fx x (m .memory) (m .mixes))))
+        (call x (scene fx v (start .memory) frames k) (outs k) m
+        (serves k (omega arith) (m .memory .typed) (accepted fx x (m .memory) (m .mixes))))
 
     served-once : (k : ℕ) → k < length frames → Serves fx v (lent start frames outs k) (outs k)
     served-once k h =

@@ -11,7 +11,8 @@ use Rattle.stems.specs.Memory.{Lent}
 use Rattle.stems.specs.Call.{secondRead, serve, adds, aloneNumber, Outcome, called}
 use Rattle.stems.specs.Whole.{gets, refusals}
 
--- what a call with this number leaves: with 0 v is served, and "the stem run's mix buffer" holds "what v adds"; with another all is as it was
+-- what a call with this number leaves: with 0 v is served, and "the stem run's mix buffer" holds "what v adds"; with another all is as it
+-- was
 unfoldable pub leavesAlone : ℕ → Fixed → ℕ → Lent → Lent
 leavesAlone zero fx v x = record {
   memory = serve fx (secondRead (fx .layout) (x .memory)) v (x .memory);

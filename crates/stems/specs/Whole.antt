@@ -1,6 +1,6 @@
 -- What a call for all voices leaves, whatever the order in which it takes them: each voice's answer in memory as the call finds it, put
--- where that voice's own lies. Assumes nothing: these are definitions and statements; `every-order` of proofs/Whole.antt and `listed-once` of
--- proofs/Listed.antt prove the two.
+-- where that voice's own lies. Assumes nothing: these are definitions and statements; `every-order` of proofs/Whole.antt and `listed-once`
+-- of proofs/Listed.antt prove the two.
 use mathlib.Core.Path.{_≡_}
 use Prim.Native.Nat.{ℕ, zero, suc, _+_}
 use mathlib.Core.Bool.{Bool, true, false, not, _&&_, cond}

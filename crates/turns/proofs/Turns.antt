@@ -1,5 +1,5 @@
--- One turn over the slice is one voice served: what it leaves, what it adds, and what is carried on. By cases of the voice's answer. Assumes
--- nothing.
+-- One turn over the slice is one voice served: what it leaves, what it adds, and what is carried on. By cases of the voice's answer.
+-- Assumes nothing.
 use mathlib.Core.Path.{_≡_, refl}
 use mathlib.Core.Bool.{Bool, not}
 use mathlib.Core.List.{List}

@@ -119,7 +119,8 @@ module _ (fx : Fixed) (r0 r1 w : List ℕ) (ys : List Voice) (lanes mixes : List
       all-long v h =
           let o = order (Permᴰ·refl allVoices) in
           turns-long fx second allVoices (x .memory) (x .memory)
-          (in-turn fx w ys r0 r1 lanes (room fx r0 r1 w ys lanes mixes zero-is .0) (λ j k. long j (subst (λ (n : ℕ). j < n) (sym all-voices-lent) k)) 24 (omega arith))
+          (in-turn fx w ys r0 r1 lanes (room fx r0 r1 w ys lanes mixes zero-is .0)
+          (λ j k. long j (subst (λ (n : ℕ). j < n) (sym all-voices-lent) k)) 24 (omega arith))
           (o .distinct) (all-waiting fx second allVoices (x .memory)) v h (omega (arith, o .one v h))
 
       number-0 : wholeNumber fx x ≡ 0

@@ -10,7 +10,8 @@ use Rattle.calls.specs.Refused.{listed}
 use Rattle.calls.specs.declared.refused.Refused.{Refused}
 use Rattle.calls.specs.declared.refused.Returned.{Returned}
 
--- what the call leaves of what is lent to it: "nothing written" where its number is not 0, and else each voice's answer, put where its own lies
+-- what the call leaves of what is lent to it: "nothing written" where its number is not 0, and else each voice's answer, put where its own
+-- lies
 abbrev pub left : Fixed → Lent → Lent
 left fx x = leaves (wholeNumber fx x) fx x
 

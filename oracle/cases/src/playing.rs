@@ -14,6 +14,22 @@ use crate::configuring::{
 };
 use crate::{Random, floats};
 
+/// an entry of a queue: mono, played once and from its start, at address 0.
+pub fn entry(format: ProbeFormat, length: u32) -> ProbeBuffer {
+    ProbeBuffer {
+        address: 0,
+        length,
+        format,
+        stereo: false,
+        looping: false,
+        id: 5,
+        adpcm: None,
+        from_queue: true,
+        play_position: 0,
+        has_played: false,
+    }
+}
+
 /// rates at which counting a step turns.
 const RATES: [f64; 18] = [
     5e-324,

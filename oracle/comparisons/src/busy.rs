@@ -7,7 +7,7 @@ use std::io::{self, Write};
 use cases::calling::{Call, KIND_MIXER, KIND_VOICES};
 use cases::configuring::{record_of, voice_of};
 use cases::layout::{ORDER, packed};
-use cases::playing::Play;
+use cases::playing::{Play, entry};
 use cases::{Mixing, VALUES};
 use zakuro_core::memory::{Memory, Window};
 use zakuro_core::services::dsp_voices::{
@@ -22,18 +22,7 @@ const BASE: u32 = 0x2000_0000;
 /// ADPCM at 1.3 with an entry to be decoded in every frame, never the same
 /// twice, the first with both filters, and a disabled one.
 fn part(kind: usize, filters: &ProbeFilters, coefficients: [i16; 16]) -> ProbeVoice {
-    let long = |stereo| ProbeBuffer {
-        address: BASE,
-        length: 16_384,
-        format: ProbeFormat::Pcm16,
-        stereo,
-        looping: false,
-        id: 1,
-        adpcm: None,
-        from_queue: true,
-        play_position: 0,
-        has_played: false,
-    };
+    let long = |stereo| ProbeBuffer { address: BASE, stereo, id: 1, ..entry(ProbeFormat::Pcm16, 16_384) };
     let voice = ProbeVoice {
         enabled: kind != 4,
         rate: [1.0, 0.7, 1.3, 1.0, 1.0][kind],

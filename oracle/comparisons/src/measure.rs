@@ -5,7 +5,7 @@ use std::hint::black_box;
 use std::time::{Duration, Instant};
 
 use cases::configuring::{FLAGS, Job, record_of, voice_of};
-use cases::playing::Play;
+use cases::playing::{Play, entry};
 use cases::serving::Serve;
 use cases::{Decode, Mixing, Random};
 use zakuro_core::services::dsp_voices::{
@@ -154,18 +154,7 @@ fn plays() -> [(&'static str, Play); 5] {
     let lane = vec![0; LONG as usize];
     let coefficients = std::array::from_fn(|_| (random.below(4096) as i32 - 2048) as i16);
     let voice = |format, stereo, rate, at: u32| {
-        let entry = ProbeBuffer {
-            address: 0x2000_0000 + at,
-            length: LONG,
-            format,
-            stereo,
-            looping: false,
-            id: 1,
-            adpcm: None,
-            from_queue: true,
-            play_position: 0,
-            has_played: false,
-        };
+        let entry = ProbeBuffer { address: 0x2000_0000 + at, stereo, id: 1, ..entry(format, LONG) };
         ProbeVoice {
             enabled: true,
             rate,

@@ -7,9 +7,9 @@
 
 use cases::Random;
 use cases::configuring::{Job, PLACES, at_seven, put_dsp32, record_of, voice_of};
-use cases::playing::{Play, halves};
+use cases::playing::{Play, entry, halves};
 use cases::serving::{Framed, Lent, Run, Serve};
-use zakuro_core::services::dsp_voices::{FRAME_SAMPLES, ProbeBuffer, ProbeFormat, ProbeVoice};
+use zakuro_core::services::dsp_voices::{FRAME_SAMPLES, ProbeFormat, ProbeVoice};
 
 use crate::served::{Met, Seen};
 use crate::{port, same};
@@ -99,22 +99,6 @@ fn refusals() -> Result<u64, String> {
 const LANE: u32 = 100;
 const EMBEDDED: u32 = 1 << 30;
 const SLOTS: u32 = 1 << 19;
-
-fn entry(format: ProbeFormat, length: u32) -> ProbeBuffer {
-    ProbeBuffer {
-        address: 0,
-        length,
-        format,
-        stereo: false,
-        looping: false,
-        id: 5,
-        adpcm: None,
-        from_queue: true,
-        play_position: 0,
-        has_played: false,
-    }
-}
-
 /// a voice amid its frames, with so many entries queued, over a window of
 /// noise, with mixes and a status of noise.
 fn amid(random: &mut Random, queued: usize) -> Serve {

@@ -2,7 +2,7 @@
 //! can be told by hand, and is asserted.
 
 use cases::Random;
-use cases::playing::{Play, lengthen};
+use cases::playing::{self, Play, lengthen};
 use zakuro_core::services::dsp_voices::{FRAME_SAMPLES, ProbeBuffer, ProbeFormat, ProbeInterpolation, ProbeVoice};
 
 use crate::Replay;
@@ -15,18 +15,7 @@ const NIBBLES: [u8; 8] = [0, 0x1F, 0x70, 0, 0, 0, 0, 0];
 
 /// an entry at the window's start.
 fn entry(format: ProbeFormat, length: u32) -> ProbeBuffer {
-    ProbeBuffer {
-        address: BASE,
-        length,
-        format,
-        stereo: false,
-        looping: false,
-        id: 5,
-        adpcm: None,
-        from_queue: true,
-        play_position: 0,
-        has_played: false,
-    }
+    ProbeBuffer { address: BASE, ..playing::entry(format, length) }
 }
 
 /// a voice that has played so much of an entry.

@@ -3,7 +3,7 @@
 
 use cases::Random;
 use cases::configuring::{Job, KIND_SERVING, PLACES, record_of, voice_of};
-use cases::playing::{Play, halves};
+use cases::playing::{Play, entry, halves};
 use cases::serving::{Framed, Run, Serve};
 use zakuro_core::services::dsp_voices::{FRAME_SAMPLES, ProbeBuffer, ProbeFormat, ProbeVoice};
 
@@ -18,18 +18,7 @@ const FRAMES: usize = 10;
 /// a voice amid a long entry of this sample, with so many entries queued and
 /// these gains, over a lane of ones; the mixes begin with 9.
 fn amid(sample: i16, queued: usize, gain: f32) -> Serve {
-    let entry = ProbeBuffer {
-        address: 0x2000_0000,
-        length: 200,
-        format: ProbeFormat::Pcm16,
-        stereo: false,
-        looping: false,
-        id: 5,
-        adpcm: None,
-        from_queue: true,
-        play_position: 0,
-        has_played: false,
-    };
+    let entry = ProbeBuffer { address: 0x2000_0000, ..entry(ProbeFormat::Pcm16, 200) };
     let voice = ProbeVoice {
         enabled: true,
         gain: [[gain; 4]; 3],
