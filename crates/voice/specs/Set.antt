@@ -16,14 +16,14 @@ set-entry-address x v =
     record {
       address = x;
       length = v .length;
+      «play_position» = v .«play_position»;
+      adpcm = v .adpcm;
+      id = v .id;
       format = v .format;
       stereo = v .stereo;
       looping = v .looping;
-      id = v .id;
       «has_adpcm» = v .«has_adpcm»;
-      adpcm = v .adpcm;
       «from_queue» = v .«from_queue»;
-      «play_position» = v .«play_position»;
       «has_played» = v .«has_played»;
     }
 
@@ -32,126 +32,14 @@ set-entry-length x v =
     record {
       address = v .address;
       length = x;
+      «play_position» = v .«play_position»;
+      adpcm = v .adpcm;
+      id = v .id;
       format = v .format;
       stereo = v .stereo;
       looping = v .looping;
-      id = v .id;
       «has_adpcm» = v .«has_adpcm»;
-      adpcm = v .adpcm;
       «from_queue» = v .«from_queue»;
-      «play_position» = v .«play_position»;
-      «has_played» = v .«has_played»;
-    }
-
-abbrev pub set-entry-format : Format → Entry → Entry
-set-entry-format x v =
-    record {
-      address = v .address;
-      length = v .length;
-      format = x;
-      stereo = v .stereo;
-      looping = v .looping;
-      id = v .id;
-      «has_adpcm» = v .«has_adpcm»;
-      adpcm = v .adpcm;
-      «from_queue» = v .«from_queue»;
-      «play_position» = v .«play_position»;
-      «has_played» = v .«has_played»;
-    }
-
-abbrev pub set-entry-stereo : Bool → Entry → Entry
-set-entry-stereo x v =
-    record {
-      address = v .address;
-      length = v .length;
-      format = v .format;
-      stereo = x;
-      looping = v .looping;
-      id = v .id;
-      «has_adpcm» = v .«has_adpcm»;
-      adpcm = v .adpcm;
-      «from_queue» = v .«from_queue»;
-      «play_position» = v .«play_position»;
-      «has_played» = v .«has_played»;
-    }
-
-abbrev pub set-entry-looping : Bool → Entry → Entry
-set-entry-looping x v =
-    record {
-      address = v .address;
-      length = v .length;
-      format = v .format;
-      stereo = v .stereo;
-      looping = x;
-      id = v .id;
-      «has_adpcm» = v .«has_adpcm»;
-      adpcm = v .adpcm;
-      «from_queue» = v .«from_queue»;
-      «play_position» = v .«play_position»;
-      «has_played» = v .«has_played»;
-    }
-
-abbrev pub set-entry-id : ℕ → Entry → Entry
-set-entry-id x v =
-    record {
-      address = v .address;
-      length = v .length;
-      format = v .format;
-      stereo = v .stereo;
-      looping = v .looping;
-      id = x;
-      «has_adpcm» = v .«has_adpcm»;
-      adpcm = v .adpcm;
-      «from_queue» = v .«from_queue»;
-      «play_position» = v .«play_position»;
-      «has_played» = v .«has_played»;
-    }
-
-abbrev pub set-entry-has-adpcm : Bool → Entry → Entry
-set-entry-has-adpcm x v =
-    record {
-      address = v .address;
-      length = v .length;
-      format = v .format;
-      stereo = v .stereo;
-      looping = v .looping;
-      id = v .id;
-      «has_adpcm» = x;
-      adpcm = v .adpcm;
-      «from_queue» = v .«from_queue»;
-      «play_position» = v .«play_position»;
-      «has_played» = v .«has_played»;
-    }
-
-abbrev pub set-entry-adpcm : History → Entry → Entry
-set-entry-adpcm x v =
-    record {
-      address = v .address;
-      length = v .length;
-      format = v .format;
-      stereo = v .stereo;
-      looping = v .looping;
-      id = v .id;
-      «has_adpcm» = v .«has_adpcm»;
-      adpcm = x;
-      «from_queue» = v .«from_queue»;
-      «play_position» = v .«play_position»;
-      «has_played» = v .«has_played»;
-    }
-
-abbrev pub set-entry-from-queue : Bool → Entry → Entry
-set-entry-from-queue x v =
-    record {
-      address = v .address;
-      length = v .length;
-      format = v .format;
-      stereo = v .stereo;
-      looping = v .looping;
-      id = v .id;
-      «has_adpcm» = v .«has_adpcm»;
-      adpcm = v .adpcm;
-      «from_queue» = x;
-      «play_position» = v .«play_position»;
       «has_played» = v .«has_played»;
     }
 
@@ -160,14 +48,126 @@ set-entry-play-position x v =
     record {
       address = v .address;
       length = v .length;
+      «play_position» = x;
+      adpcm = v .adpcm;
+      id = v .id;
       format = v .format;
       stereo = v .stereo;
       looping = v .looping;
-      id = v .id;
       «has_adpcm» = v .«has_adpcm»;
-      adpcm = v .adpcm;
       «from_queue» = v .«from_queue»;
-      «play_position» = x;
+      «has_played» = v .«has_played»;
+    }
+
+abbrev pub set-entry-adpcm : History → Entry → Entry
+set-entry-adpcm x v =
+    record {
+      address = v .address;
+      length = v .length;
+      «play_position» = v .«play_position»;
+      adpcm = x;
+      id = v .id;
+      format = v .format;
+      stereo = v .stereo;
+      looping = v .looping;
+      «has_adpcm» = v .«has_adpcm»;
+      «from_queue» = v .«from_queue»;
+      «has_played» = v .«has_played»;
+    }
+
+abbrev pub set-entry-id : ℕ → Entry → Entry
+set-entry-id x v =
+    record {
+      address = v .address;
+      length = v .length;
+      «play_position» = v .«play_position»;
+      adpcm = v .adpcm;
+      id = x;
+      format = v .format;
+      stereo = v .stereo;
+      looping = v .looping;
+      «has_adpcm» = v .«has_adpcm»;
+      «from_queue» = v .«from_queue»;
+      «has_played» = v .«has_played»;
+    }
+
+abbrev pub set-entry-format : Format → Entry → Entry
+set-entry-format x v =
+    record {
+      address = v .address;
+      length = v .length;
+      «play_position» = v .«play_position»;
+      adpcm = v .adpcm;
+      id = v .id;
+      format = x;
+      stereo = v .stereo;
+      looping = v .looping;
+      «has_adpcm» = v .«has_adpcm»;
+      «from_queue» = v .«from_queue»;
+      «has_played» = v .«has_played»;
+    }
+
+abbrev pub set-entry-stereo : Bool → Entry → Entry
+set-entry-stereo x v =
+    record {
+      address = v .address;
+      length = v .length;
+      «play_position» = v .«play_position»;
+      adpcm = v .adpcm;
+      id = v .id;
+      format = v .format;
+      stereo = x;
+      looping = v .looping;
+      «has_adpcm» = v .«has_adpcm»;
+      «from_queue» = v .«from_queue»;
+      «has_played» = v .«has_played»;
+    }
+
+abbrev pub set-entry-looping : Bool → Entry → Entry
+set-entry-looping x v =
+    record {
+      address = v .address;
+      length = v .length;
+      «play_position» = v .«play_position»;
+      adpcm = v .adpcm;
+      id = v .id;
+      format = v .format;
+      stereo = v .stereo;
+      looping = x;
+      «has_adpcm» = v .«has_adpcm»;
+      «from_queue» = v .«from_queue»;
+      «has_played» = v .«has_played»;
+    }
+
+abbrev pub set-entry-has-adpcm : Bool → Entry → Entry
+set-entry-has-adpcm x v =
+    record {
+      address = v .address;
+      length = v .length;
+      «play_position» = v .«play_position»;
+      adpcm = v .adpcm;
+      id = v .id;
+      format = v .format;
+      stereo = v .stereo;
+      looping = v .looping;
+      «has_adpcm» = x;
+      «from_queue» = v .«from_queue»;
+      «has_played» = v .«has_played»;
+    }
+
+abbrev pub set-entry-from-queue : Bool → Entry → Entry
+set-entry-from-queue x v =
+    record {
+      address = v .address;
+      length = v .length;
+      «play_position» = v .«play_position»;
+      adpcm = v .adpcm;
+      id = v .id;
+      format = v .format;
+      stereo = v .stereo;
+      looping = v .looping;
+      «has_adpcm» = v .«has_adpcm»;
+      «from_queue» = x;
       «has_played» = v .«has_played»;
     }
 
@@ -176,14 +176,14 @@ set-entry-has-played x v =
     record {
       address = v .address;
       length = v .length;
+      «play_position» = v .«play_position»;
+      adpcm = v .adpcm;
+      id = v .id;
       format = v .format;
       stereo = v .stereo;
       looping = v .looping;
-      id = v .id;
       «has_adpcm» = v .«has_adpcm»;
-      adpcm = v .adpcm;
       «from_queue» = v .«from_queue»;
-      «play_position» = v .«play_position»;
       «has_played» = x;
     }
 

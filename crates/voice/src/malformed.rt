@@ -2,10 +2,12 @@
 ghost use mathlib.Core.Path.{_≡_};
 ghost use Prim.Native.Nat.{_≤_};
 ghost use lib.Dec.{ltb};
+ghost use lib.ListN.{take};
 ghost use Rattle.voice.specs.Blank.{limit};
 ghost use Rattle.voice.specs.Long.{isAdpcm, tooLong, anyTooLong};
 ghost use Rattle.voice.specs.Malformed.{queuedIn, malformed};
 use crate::blank::LIMIT;
+use crate::blank::PLACES;
 use crate::record::Entry;
 use crate::record::Format;
 use crate::record::Voice;
@@ -38,21 +40,32 @@ pub fn too_long(e: Entry, lane: usize) -> bool
     is_adpcm(f) & over(e.length, lane)
 }
 
-// No early exit, so that the loop's invariant is an equation.
-fn any_too_long(v: Voice, lane: usize) -> bool
-    requires { ⌜ v .queued ≤ limit ⌝ }
-    ensures { λ r. ⌜ r ≡ anyTooLong lane (queuedIn v) ⌝ }
+// Whether one of the first so many is longer. No early exit, so that the loop's invariant is an equation.
+fn long_among(queue: [Entry; PLACES], n: usize, lane: usize) -> bool
+    requires { ⌜ n ≤ limit ⌝ }
+    ensures { λ r. ⌜ r ≡ anyTooLong lane (take n queue) ⌝ }
 {
-    let n = v.queued;
     let mut found = false;
     let mut i: usize = 0;
     while i < n {
-        let e = v.queue[i];
+        let e = queue[i];
         let long = too_long(e, lane);
         found = found | long;
         i += 1;
     }
     found
+}
+
+// Whether a queued entry is longer. A queue is handed on only where something is queued, since it is copied.
+fn any_too_long(v: Voice, lane: usize) -> bool
+    requires { ⌜ v .queued ≤ limit ⌝ }
+    ensures { λ r. ⌜ r ≡ anyTooLong lane (queuedIn v) ⌝ }
+{
+    if v.queued == 0 {
+        return false;
+    }
+    let queue = v.queue;
+    long_among(queue, v.queued, lane)
 }
 
 pub fn malformed(v: Voice, lane: usize) -> bool

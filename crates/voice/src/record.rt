@@ -16,19 +16,20 @@ pub enum Interpolation {
     None,
 }
 
-// An entry of the queue, the source's `Buffer`.
+// An entry of the queue, the source's `Buffer`. The fields stand by their sizes, so that there are no gaps between them: entries are most
+// of a record, and a record is copied often.
 pub struct Entry {
     pub address: u32,
     pub length: u32,
+    pub play_position: u32,
+    // the ADPCM history to start from, where its mark is on
+    pub adpcm: History,
+    pub id: u16,
     pub format: Format,
     pub stereo: bool,
     pub looping: bool,
-    pub id: u16,
-    // the ADPCM history to start from, where its mark is on
     pub has_adpcm: bool,
-    pub adpcm: History,
     pub from_queue: bool,
-    pub play_position: u32,
     pub has_played: bool,
 }
 

@@ -21,35 +21,52 @@ module _ (v : Voice) (i : ℕ) (t : Turn) (fx : Fixed) (region0 region1 window :
   abbrev answered : Answer
   answered = answerTo fx (t .second) i v region0 region1 window lanes
 
-  -- what a turn comes to by an answer, with region 1 read or not, is what the turn's definitions say
-  pub record Follows (answer : Answer) (second : Bool) : Type 0 where
+  -- what a turn comes to where what is lent is left so, with the record and the number still to be handed on
+  pub record Follows (done : Served) (left0 left1 : List ℕ) (left-lanes left-mixes : List ℤ) : Type 0 where
     pub taken :
-        (r : Taken) (done : Served) → done .number ≡ numberOf answer → done .voice ≡ voiceAfter answer v → r .v ≡ done .voice
-        → r .turn .second ≡ t .second → r .turn .refused ≡ refusedAfter i (done .number) (t .refused)
+        (r : Taken) → r .v ≡ done .voice → r .turn .second ≡ t .second → r .turn .refused ≡ refusedAfter i (done .number) (t .refused)
         → r ≡ takenBy v i t fx region0 region1 window lanes mixes
-    pub in0 : regionBy (fx .layout) i answer (not second) region0 ≡ region0By v i t fx region0 region1 window lanes mixes
-    pub in1 : regionBy (fx .layout) i answer second region1 ≡ region1By v i t fx region0 region1 window lanes mixes
-    pub in-lanes : lanesWith i answer lanes ≡ lanesBy v i t fx region0 region1 window lanes mixes
-    pub in-mixes : mixesAfter answer mixes ≡ mixesBy v i t fx region0 region1 window lanes mixes
-    pub long : LongAs (laneLength (length lanes)) answer → LongAs (laneLength (length lanes)) answered
+    pub in0 : left0 ≡ region0By v i t fx region0 region1 window lanes mixes
+    pub in1 : left1 ≡ region1By v i t fx region0 region1 window lanes mixes
+    pub in-lanes : left-lanes ≡ lanesBy v i t fx region0 region1 window lanes mixes
+    pub in-mixes : left-mixes ≡ mixesBy v i t fx region0 region1 window lanes mixes
+    pub long : LongAs (laneLength (length lanes)) answered
 
-  follows : {answer : Answer} {second : Bool} → answer ≡ answered → second ≡ t .second → Follows answer second
-  unfolding takenBy region0By region1By lanesBy mixesBy
-  follows same e = record {
-    taken = λ r done n w u s f.
-        let voice = u ∙ w ∙ ap (λ (a : Answer). voiceAfter a v) same in
-        let list = f ∙ ap (λ (k : ℕ). refusedAfter i k (t .refused)) (n ∙ ap numberOf same) in
-        λ j. record { v = voice j; turn = record { second = s j; refused = list j } };
-    in0 = λ j. regionBy (fx .layout) i (same j) (not (e j)) region0;
-    in1 = λ j. regionBy (fx .layout) i (same j) (e j) region1;
-    in-lanes = ap (λ (a : Answer). lanesWith i a lanes) same;
-    in-mixes = ap (λ (a : Answer). mixesAfter a mixes) same;
-    long = subst (LongAs (laneLength (length lanes))) same;
-  }
+  -- it is left so by an answer, with region 1 read or not
+  pub record Answered (answer : Answer) (second : Bool) (done : Served) (left0 left1 : List ℕ) (left-lanes left-mixes : List ℤ) :
+      Type 0 where
+    pub number : done .number ≡ numberOf answer
+    pub voice : done .voice ≡ voiceAfter answer v
+    pub in0 : left0 ≡ regionBy (fx .layout) i answer (not second) region0
+    pub in1 : left1 ≡ regionBy (fx .layout) i answer second region1
+    pub in-lanes : left-lanes ≡ lanesWith i answer lanes
+    pub in-mixes : left-mixes ≡ mixesAfter answer mixes
+    pub long : LongAs (laneLength (length lanes)) answer
 
-  pub second-read : t .second ≡ true → Follows (answerTo fx false i v region1 region0 window lanes) true
-  unfolding answerTo
-  second-read e = follows (ap (λ (b : Bool). answerTo fx b i v region0 region1 window lanes) (sym e)) (sym e)
+  module _ {done : Served} {left0 left1 : List ℕ} {left-lanes left-mixes : List ℤ} where
+    follows :
+        {answer : Answer} {second : Bool} → answer ≡ answered → second ≡ t .second
+        → Answered answer second done left0 left1 left-lanes left-mixes → Follows done left0 left1 left-lanes left-mixes
+    unfolding takenBy region0By region1By lanesBy mixesBy
+    follows same e a = record {
+      taken = λ r u s f.
+          let voice = u ∙ a .voice ∙ ap (λ (x : Answer). voiceAfter x v) same in
+          let list = f ∙ ap (λ (k : ℕ). refusedAfter i k (t .refused)) (a .number ∙ ap numberOf same) in
+          λ j. record { v = voice j; turn = record { second = s j; refused = list j } };
+      in0 = a .in0 ∙ (λ j. regionBy (fx .layout) i (same j) (not (e j)) region0);
+      in1 = a .in1 ∙ (λ j. regionBy (fx .layout) i (same j) (e j) region1);
+      in-lanes = a .in-lanes ∙ ap (λ (x : Answer). lanesWith i x lanes) same;
+      in-mixes = a .in-mixes ∙ ap (λ (x : Answer). mixesAfter x mixes) same;
+      long = subst (LongAs (laneLength (length lanes))) same (a .long);
+    }
 
-  pub first-read : t .second ≡ false → Follows (answerTo fx false i v region0 region1 window lanes) false
-  first-read e = follows (ap (λ (b : Bool). answerTo fx b i v region0 region1 window lanes) (sym e)) (sym e)
+    pub second-read :
+        t .second ≡ true → Answered (answerTo fx false i v region1 region0 window lanes) true done left0 left1 left-lanes left-mixes
+        → Follows done left0 left1 left-lanes left-mixes
+    unfolding answerTo
+    second-read e = follows (ap (λ (b : Bool). answerTo fx b i v region0 region1 window lanes) (sym e)) (sym e)
+
+    pub first-read :
+        t .second ≡ false → Answered (answerTo fx false i v region0 region1 window lanes) false done left0 left1 left-lanes left-mixes
+        → Follows done left0 left1 left-lanes left-mixes
+    first-read e = follows (ap (λ (b : Bool). answerTo fx b i v region0 region1 window lanes) (sym e)) (sym e)

@@ -61,10 +61,10 @@ pub fn take_turn(
     ensures long { λ _. ⌜ LongAs (laneLength (length (now (lanes .entry)))) (answerTo fixed (turn .second) i v
         (now (region0 .entry)) (now (region1 .entry)) (now (window .entry)) (now (lanes .entry))) ⌝ }
 {
-    if turn.second {
-        let done = serve_in(v, i, fixed, region1, region0, window, lanes, mixes);
-        return hand_on(turn, i, done);
-    }
-    let done = serve_in(v, i, fixed, region0, region1, window, lanes, mixes);
+    let done = if turn.second {
+        serve_in(v, i, fixed, region1, region0, window, lanes, mixes)
+    } else {
+        serve_in(v, i, fixed, region0, region1, window, lanes, mixes)
+    };
     hand_on(turn, i, done)
 }
