@@ -1,7 +1,7 @@
 -- The call's contract on each of its three ways: refused by its lengths, refused for a record or for the voice's number, and served, where
 -- one turn is one voice served. Assumes nothing.
 use mathlib.Core.Path.{_≡_, refl, sym, ap, _∙_, subst}
-use mathlib.Core.Bool.{Bool, true, false, not, cond}
+use mathlib.Core.Bool.{Bool, false, not, cond}
 use mathlib.Core.List.{List, [], _∷_}
 use Prim.Native.Nat.{ℕ, zero, suc, _<_, _≤_, zero-le}
 use native.Mathlib.Omega.{arith}

@@ -27,10 +27,6 @@ more f rs r h =
     ap (λ (i : ℕ). set (padded (map f rs)) i (f r)) (sym (length-map rs f))
     ∙ stored (map f rs) (f r) (omega (arith, length-map rs f)) ∙ ap padded (sym (map-append f rs (r ∷ [])))
 
-pub listed-count : (rs : List Refusal) → listed rs .count ≡ length rs
-unfolding listed
-listed-count rs = refl
-
 pub listed-after : (rs : List Refusal) (v n : ℕ) → length rs < 24 → refusedAfter v n (listed rs) ≡ listed (rs ++ noted v n [])
 unfolding refusedAfter listed noted
 listed-after rs v zero h = ap listed (sym (append-nil rs))

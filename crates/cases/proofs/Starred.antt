@@ -5,7 +5,7 @@ use Rattle.mixing.specs.Interpolate.{interpolate}
 use Rattle.adpcm.specs.Code.{sumOf}
 use Rattle.adpcm.specs.Adpcm.{sampleOf}
 use Rattle.adpcm.specs.Public.{publicSum, publicSample}
-use Rattle.voice.specs.Blank.{blankEntry, defaultVoice}
+use Rattle.voice.specs.Blank.{blankEntry}
 use Rattle.queue.specs.Removal.{without, removed}
 use Rattle.queue.specs.Search.{least, searched}
 use Rattle.cases.specs.Starred.{StarredCasesHold}

@@ -12,14 +12,13 @@ use lib.Dec.{eqb}
 use lib.ListN.{length, take, getD, replicate, length-set}
 use lib.Seq.{take-suc-set}
 use borrow.Author.Tests.{eqb-true}
-use Rattle.lists.specs.Splice.{part, splice}
+use Rattle.lists.specs.Splice.{splice}
 use Rattle.lists.proofs.Bools.{cond-yes, cond-no, cond-either}
 use Rattle.lists.proofs.Splice.{Apart, part-at, length-splice, other-splice}
 use Rattle.fields.specs.Fields.{configuration, total}
 use Rattle.little.specs.Little.{at16}
 use Rattle.little.proofs.Bytes.{read-write16, read-write32}
 use Rattle.voice.specs.Malformed.{queuedIn}
-use Rattle.voice.specs.Range.{sized}
 use Rattle.voice.specs.declared.record.Entry.{Entry}
 use Rattle.voice.specs.declared.record.Voice.{Voice}
 use Rattle.voice.proofs.Range.{test-sized}

@@ -1,16 +1,16 @@
 -- A dequeue keeps a record well-formed, its queue's places, and the lane as long as it was, by its steps one after the other. Assumes
 -- nothing.
-use mathlib.Core.Path.{_≡_, refl, sym, ap, _∙_, subst}
-use mathlib.Core.Bool.{Bool, true, false, _&&_, cond}
-use mathlib.Core.List.{List, _++_}
-use mathlib.Core.Logic.{_⊎_, inl, inr, ⊎-elim}
-use Prim.Native.Nat.{ℕ, _+_, _-_, _*_, _≤_, _<_}
+use mathlib.Core.Path.{_≡_, refl, ap, _∙_}
+use mathlib.Core.Bool.{Bool, true, false, cond}
+use mathlib.Core.List.{List}
+use mathlib.Core.Logic.{_⊎_, ⊎-elim}
+use Prim.Native.Nat.{ℕ, _+_, _-_, _≤_, _<_}
 use native.Mathlib.Decide.{ℕ-discrete}
 use native.Mathlib.Omega.{arith}
 use lib.IntN.{ℤ}
 use lib.ListN.{length, getD, set, drop, length-append, length-drop, length-set}
 use lib.Seq.{getD-set-same, getD-set-other}
-use Rattle.lists.proofs.Bools.{cond-yes, cond-no, cond-either, and-both}
+use Rattle.lists.proofs.Bools.{cond-either, and-both}
 use Rattle.lists.proofs.Walk.{below-or}
 use Rattle.window.proofs.Bytes.{there-long}
 use Rattle.adpcm.proofs.Codes.{decoded-long}
@@ -37,7 +37,7 @@ use Rattle.adpcm.specs.declared.History.{History}
 use Rattle.voice.specs.Set.{set-voice-history, set-voice-queue, set-voice-decoded}
 use Rattle.dequeue.specs.Dequeue.{entryAt, taken, withHistory, begunAt, begun, startOf, aligned, bytesOf, decodable, adpcmIn}
 use Rattle.dequeue.specs.Dequeue.{decodedVoice, decodedLane}
-use Rattle.dequeue.specs.Dequeue.{preparedVoice, preparedLane, ready, dequeuedBy, laneBy, dequeued, dequeuedLane}
+use Rattle.dequeue.specs.Dequeue.{preparedVoice, preparedLane, dequeuedBy, laneBy, dequeued, dequeuedLane}
 use Rattle.dequeue.proofs.Laws.{fits-lane}
 
 -- ---- the entry leaves, or is marked

@@ -9,14 +9,14 @@ use lib.IntN.{ℤ, pos, negsuc, natAbs, _+ℤ_, +ℤ-idr}
 use lib.ListN.{length, getD}
 use lib.Signed.{mag, ltZ}
 use borrow.Author.Tests.{le-ltb}
-use lib.Ieee.{Float, nan, inf, fin, binary32, add, mul, div, eq, ofInt, up, down, unlike}
+use lib.Ieee.{Float, nan, inf, fin, binary32, add, div, eq, ofInt, up, down, unlike}
 use lib.Ieee.Fits.{down-pos}
 use Rattle.lists.proofs.Tabulate.{tabulated}
 use Rattle.numbers.specs.Casts.{cast-i32, single}
 use Rattle.numbers.specs.Literals.{+0}
 use Rattle.numbers.specs.Wrap.{clamp16}
 use Rattle.numbers.proofs.Reach.{Reach, zero-reach, single-reach, mul-reach, add-reach, round-reach, cast-reach, only-zero}
-use Rattle.downmix.specs.Downmix.{at-volume, mono, side, mono-part, stereo-part, added, partAt, mixedIn}
+use Rattle.downmix.specs.Downmix.{at-volume, mono-part, stereo-part, added, partAt, mixedIn}
 use Rattle.mixer_state.specs.declared.Output.{Output}
 use Rattle.mixer_state.specs.declared.Output.the-variants.{Mono, Stereo}
 

@@ -1,7 +1,7 @@
 -- What holds of the tables of fields beside the constants that the code has of them. Assumes nothing: these are definitions; `tables` of
 -- proofs/Tables.antt proves the statement.
 use mathlib.Core.Path.{_≡_}
-use Prim.Native.Nat.{ℕ, _+_, _*_, _≤_, _<_}
+use Prim.Native.Nat.{ℕ, _+_, _≤_, _<_}
 use Prim.Native.String.{String}
 use mathlib.Core.Bool.{Bool, true, false, not, _&&_, _||_}
 use mathlib.Core.List.{List, [], _∷_}

@@ -2,7 +2,7 @@
 -- Assumes nothing.
 use mathlib.Core.Path.{_≡_, refl, sym, ap, _∙_, subst}
 use mathlib.Core.Bool.{Bool, true, false}
-use mathlib.Core.List.{List, [], _∷_}
+use mathlib.Core.List.{[], _∷_}
 use Prim.Native.Nat.{ℕ, suc, _+_, _-_, _*_, _<_, _≤_}
 use native.Mathlib.Nat.{mul-suc, mul-le-mul, mul-div-right, mul-add-div, div-eq-of-lt}
 use native.Mathlib.Omega.{arith}
@@ -19,12 +19,11 @@ use Rattle.filters.specs.declared.state.SimpleFilter.{SimpleFilter}
 use Rattle.filters.specs.declared.state.BiquadFilter.{BiquadFilter}
 use Rattle.filters.specs.declared.state.Filters.{Filters}
 use Rattle.filters.specs.declared.process.Passed.{Passed}
-use Rattle.filters.specs.Defaults.{defaultSimple, defaultBiquad, noFilters}
+use Rattle.filters.specs.Defaults.{defaultBiquad}
 use Rattle.filters.specs.Filter.{simpleSum, simpleValue, biquadSum, biquadValue}
-use Rattle.filters.specs.Process.{passSimple, passBiquad, pass, passedFrom, filtersAfter}
+use Rattle.filters.specs.Process.{passSimple, passBiquad, pass}
 use Rattle.filters.specs.Identity.{Default, DefaultsAreIdentities}
 use Rattle.filters.proofs.Passes.{the, first-fits, rest-fit}
-use Rattle.filters.proofs.Marks.{off}
 
 -- ---- a sample scaled up and down again
 
@@ -141,11 +140,3 @@ defaults-are-identities channel f [] d fit = refl
 defaults-are-identities channel f (x ∷ samples) d fit =
     let s = pass-same channel f x (first-fits x samples fit) d in
     λ i. s .value i ∷ defaults-are-identities (1 - channel) (pass channel f x .filters) samples (s .filters) (rest-fit x samples fit) i
-
--- ---- no filters: no sample and nothing of the filters changes
-
-pub no-filters-identity : (channel : ℕ) (samples : List ℤ) → passedFrom channel noFilters samples ≡ samples
-no-filters-identity channel samples = sym (off channel defaultSimple defaultBiquad samples .0)
-
-pub no-filters-after : (channel : ℕ) (samples : List ℤ) → filtersAfter channel noFilters samples ≡ noFilters
-no-filters-after channel samples = sym (off channel defaultSimple defaultBiquad samples .1)

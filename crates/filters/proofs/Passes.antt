@@ -18,7 +18,6 @@ use Rattle.filters.specs.declared.state.BiquadFilter.{BiquadFilter}
 use Rattle.filters.specs.declared.state.Filters.{Filters}
 use Rattle.filters.specs.declared.process.Passed.{Passed}
 use Rattle.filters.specs.Range.{inRange, allInRange, simpleInRange, biquadInRange, filtersInRange}
-use Rattle.filters.specs.Defaults.{defaultSimple, defaultBiquad, noFilters}
 use Rattle.filters.specs.Filter.{simpleSum, simpleValue, simpleAfter, biquadSum, biquadValue, moved, biquadAfter}
 use Rattle.filters.specs.Process.{passSimple, passBiquad, pass, passedFrom, filtersAfter}
 use Rattle.filters.specs.Identity.{AllFit}
@@ -93,19 +92,6 @@ biquad-kept channel f x0 value t h k =
     let p = biquad-parts f t in
     biquad-whole (biquadAfter channel f x0 value)
     (record { b = p .b; a = p .a; x = moved-kept channel (f .x) x0 (p .x) h; y = moved-kept channel (f .y) value (p .y) k })
-
--- ---- the defaults
-
-pub default-simple-in-range : T (simpleInRange defaultSimple)
-unfolding inRange
-default-simple-in-range = tt
-
-pub default-biquad-in-range : T (biquadInRange defaultBiquad)
-unfolding inRange
-default-biquad-in-range = tt
-
-pub no-filters-in-range : T (filtersInRange noFilters)
-no-filters-in-range = tt
 
 -- ---- the filters, by their marks
 

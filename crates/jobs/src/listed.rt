@@ -2,7 +2,6 @@
 // and bytes made by a rule from the seed, cut to the length. The answer has the listing's length and a sum over all of its bytes, words,
 // and the last of it, at most 1,024 bytes.
 ghost use Prim.Native.Nat.{_≤_};
-ghost use lib.ListN.{length};
 ghost use Rattle.listing.specs.Sizes.{inputRoom};
 use crate::sizes::ROOM;
 use listing::sizes;

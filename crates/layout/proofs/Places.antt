@@ -1,15 +1,15 @@
 -- What the tests on places mean in words of bytes, and so when each of the numbers 1, 2 and 3 is given. The tests are walked as lists; the
 -- byte past the region is a place's last, and the byte that two places share is the later one's first. Assumes nothing.
-use mathlib.Core.Path.{_≡_, refl, sym, subst, _∙_}
+use mathlib.Core.Path.{_≡_, refl, sym, _∙_}
 use mathlib.Core.Bool.{Bool, true, false, not, _&&_, _||_}
 use mathlib.Core.List.{List, [], _∷_}
 use mathlib.Core.Logic.{_⊎_, inl, inr, ⊎-elim, _↔_}
-use Prim.Native.Nat.{ℕ, zero, suc, _+_, _-_, _≤_, _<_, zero-le, suc-le-suc}
+use Prim.Native.Nat.{ℕ, zero, suc, _-_, _≤_, _<_, zero-le, suc-le-suc}
 use native.Mathlib.Nat.{le-of-suc-le-suc, not-suc-le-zero}
 use native.Mathlib.Omega.{arith}
 use lib.Dec.{eqb, ltb, leb, lit<}
 use lib.ListN.{length, getD}
-use borrow.Author.Tests.{eqb-true, eq-eqb, ne-eqb, lt-ltb, le-leb, lt-leb, leb-true, leb-false, ltb-true, ltb-false, not-true, not-false}
+use borrow.Author.Tests.{eqb-true, eq-eqb, lt-ltb, le-leb, lt-leb, leb-true, leb-false, ltb-true, ltb-false, not-true, not-false}
 use Rattle.lists.specs.Lowest.{Given}
 use Rattle.lists.proofs.Bools.{clash, or-no, or-yes, or-neither, not-yes, not-no, and-both, and-yes}
 use Rattle.lists.proofs.Lowest.{holds-or, fails-if, lowest-given}
@@ -200,11 +200,3 @@ module _ (first second : ℕ) (l : Layout) where
         within = inside-each first (placesOf l) (not-false _ (f .1 .0));
         own = λ i j k o h p q. exactly .none .0 e .2 (i, j, k, o, h, p, q);
       }
-
-  -- and wherever it is
-  pub accepts : Sound first second l → layoutNumber first second l ≡ 0
-  accepts s = exactly .none .1 (
-    λ w. ⊎-elim (λ n. n (s .same)) (λ h. ⊎-elim (λ g. omega (arith, s .small, g)) (λ g. omega (arith, s .same, s .small, g)) h) w,
-    λ p. let w = s .within (p .0) (p .2) in omega (arith, p .3, p .4),
-    λ p. s .own (p .0) (p .1) (p .2) (p .3) (p .4) (p .5) (p .6),
-  )

@@ -4,9 +4,9 @@ use mathlib.Core.Path.{_≡_, sym, ap, _∙_}
 use mathlib.Core.Bool.{false}
 use mathlib.Core.List.{List}
 use mathlib.Core.Logic.{⊎-elim}
-use Prim.Native.Nat.{ℕ, _+_, _*_, _≤_, _<_}
+use Prim.Native.Nat.{ℕ, _+_, _*_, _<_}
 use native.Mathlib.Omega.{arith}
-use lib.ListN.{length, take, getD, length-take, List·getD-eq-default}
+use lib.ListN.{length, take, length-take, List·getD-eq-default}
 use lib.Seq.{take-all, length-take-le, getD-take}
 use borrow.Author.Tests.{ne-eqb}
 use Rattle.lists.proofs.Bools.{cond-no}

@@ -1,17 +1,17 @@
 -- The laws of decimal digits and of columns: a number of ten or more has the digits of its tenth part and one more, by induction on the
 -- turns. Assumes nothing.
-use mathlib.Core.Path.{_≡_, refl, sym, ap, _∙_}
+use mathlib.Core.Path.{_≡_, sym, ap, _∙_}
 use mathlib.Core.Bool.{Bool, true, false}
 use mathlib.Core.List.{List, [], _∷_, _++_}
 use mathlib.Core.Logic.{⊎-elim}
 use Prim.Native.Nat.{ℕ, zero, suc, _+_, _-_, _/_, _^_, _≤_, _<_}
 use native.Mathlib.Nat.{not-suc-le-zero}
 use native.Mathlib.Omega.{arith}
-use lib.ListN.{length, length-append, length-replicate}
+use lib.ListN.{length, length-append}
 use borrow.Author.Tests.{lt-ltb, le-ltb}
 use Rattle.lists.proofs.Bools.{cond-yes, cond-no}
 use Rattle.lists.proofs.Walk.{below-or}
-use Rattle.listing.specs.Text.{lastDigit, decimalIn, decimal, numeral, column}
+use Rattle.listing.specs.Text.{lastDigit, decimalIn, decimal, numeral}
 
 -- after the digits of its tenth part, or after none, the last digit
 abbrev last : List ℕ → ℕ → List ℕ
@@ -62,7 +62,3 @@ short (suc k) n h =
 pub numeral-short : (negative : Bool) (n k : ℕ) → length (decimal n) ≤ k → length (numeral negative n) ≤ suc k
 numeral-short true n k h = omega arith
 numeral-short false n k h = omega arith
-
--- a column is as long as it is wide
-pub column-long : (width : ℕ) (text : List ℕ) → length text ≤ width → length (column width text) ≡ width
-column-long width text h = simp (length-append, length-replicate) (omega arith)

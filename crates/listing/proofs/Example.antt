@@ -1,6 +1,6 @@
 -- Document 01's worked listing, byte for byte, by computing the definitions. Assumes nothing.
 use mathlib.Core.Path.{_≡_, refl}
-use mathlib.Core.List.{List, [], _∷_, _++_}
+use mathlib.Core.List.{List, _∷_, _++_}
 use Prim.Native.Nat.{ℕ}
 use lib.ListN.{replicate}
 use Rattle.adpcm.specs.Code.{sumOf}

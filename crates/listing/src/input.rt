@@ -2,8 +2,6 @@
 ghost use mathlib.Core.Path.{_≡_};
 ghost use Prim.Native.Nat.{_+_, _*_, _≤_, _<_};
 ghost use lib.ListN.{length};
-ghost use Rattle.numbers.specs.Wrap.{signed16};
-ghost use Rattle.little.specs.Little.{at16};
 ghost use Rattle.listing.specs.Sizes.{header};
 ghost use Rattle.listing.specs.Listing.{coefficientsIn, historyIn, countIn};
 use adpcm::History;

@@ -3,7 +3,7 @@ ghost use mathlib.Core.Path.{_≡_};
 ghost use Prim.Native.Nat.{_+_, _*_, _≤_, _<_};
 ghost use mathlib.Core.List.{_++_};
 ghost use lib.ListN.{length};
-ghost use Rattle.listing.specs.Text.{decimal, signedDecimal, column, newline};
+ghost use Rattle.listing.specs.Text.{signedDecimal, column, newline};
 ghost use Rattle.listing.specs.Sizes.{width, lineBytes, mostSamples, outputRoom};
 ghost use Rattle.listing.specs.Inner.{Put};
 ghost use Rattle.listing.specs.Listing.{row, rows, tables, onlyNine};

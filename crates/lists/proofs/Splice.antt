@@ -1,15 +1,15 @@
 -- The laws of `part` and `splice`, by induction on the stores: the same stores keep two equal parts equal, stores elsewhere keep a part,
 -- and within the list a splice is what a part lent on comes back as. Assumes nothing.
 use mathlib.Core.Path.{_≡_, refl, sym, ap, _∙_, subst}
-use mathlib.Core.List.{List, [], _∷_, _++_, append-assoc, append-nil}
+use mathlib.Core.List.{List, [], _∷_, _++_, append-assoc}
 use mathlib.Core.Logic.{_⊎_, inl, inr}
 use Prim.Native.Nat.{ℕ, zero, suc, _+_, _-_, _≤_, _<_}
 use native.Mathlib.Nat.{add-sub-of-le}
 use native.Mathlib.Decide.{decLt}
 use native.Mathlib.Omega.{arith}
-use lib.ListN.{length, getD, take, drop, set, length-take, length-drop, drop-of-length-le, take-append-drop}
+use lib.ListN.{length, getD, take, drop, set, length-take, length-drop, take-append-drop}
 use lib.Seq.{sets, sets-eq, length-sets, length-take-le, take-at, drop-at, drop-drop, drop-set-lt, drop-set-add, take-set-le, getD-take}
-use lib.Seq.{getD-drop, drop-length}
+use lib.Seq.{getD-drop}
 use Rattle.lists.specs.Splice.{part, splice}
 
 -- m elements from i on, and n from a on, share none
@@ -139,22 +139,3 @@ module _ {A : Type 0} where
       → take a l ++ (last ++ drop (a + n - a) (drop a l)) ≡ splice l a new
   called-is-splice l last new a n h e q =
       ap (λ (r : List A). take a l ++ (r ++ drop (a + n - a) (drop a l))) e ∙ back-is-splice l new a (a + n) (omega arith) h (omega arith)
-
-  -- the same where the call fills the part from its front: what it says of the part's rest is said of no element
-  pub filled-is-splice :
-      (l last new : List A) (a n : ℕ) → a + n ≤ length l → last ≡ new ++ drop n (take (a + n - a) (drop a l)) → length new ≡ n
-      → take a l ++ (last ++ drop (a + n - a) (drop a l)) ≡ splice l a new
-  filled-is-splice l last new a n h e q =
-      called-is-splice l last new a n h
-      (e ∙ ap (λ (r : List A). new ++ r) (drop-of-length-le (take (a + n - a) (drop a l)) short) ∙ append-nil new) q
-    where
-      short : length (take (a + n - a) (drop a l)) ≤ n
-      short = simp (length-take, length-drop) (omega arith)
-
-  -- straight-line stores from the first index on that fill the list whole
-  pub sets-full : (l vs : List A) → length l ≡ length vs → sets l 0 vs ≡ vs
-  sets-full l vs q =
-      sets-eq vs l 0 (omega arith) ∙ ap (λ (r : List A). vs ++ r) (ap (λ (n : ℕ). drop n l) z ∙ drop-length l) ∙ append-nil vs
-    where
-      z : 0 + length vs ≡ length l
-      z = omega arith

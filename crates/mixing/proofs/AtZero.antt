@@ -1,19 +1,19 @@
 -- At a fraction of 0.0, of either sign, what is between two samples is the first: so the source's test for it may be left out. Assumes
 -- nothing.
 use mathlib.Core.Path.{_≡_, refl, sym, ap, _∙_, subst}
-use mathlib.Core.Bool.{Bool, true, false, not, _&&_, cond, Bool·beq}
-use Prim.Native.Nat.{ℕ, zero, suc, _+_, _-_, _*_, _^_, _≤_, _<_}
-use native.Mathlib.Nat.{mul-one, mul-zero, zero-mul, zero-lt-suc}
+use mathlib.Core.Bool.{Bool, true, false, not, _&&_, cond}
+use Prim.Native.Nat.{ℕ, suc, _+_, _-_, _*_, _^_, _≤_, _<_}
+use native.Mathlib.Nat.{mul-zero, zero-lt-suc}
 use native.Mathlib.Omega.{arith}
 use lib.IntN.{ℤ, pos, negsuc, natAbs}
 use lib.Signed.{mag, natAbs-le}
 use lib.Dec.{T, ltb, eqb, eqb→eq}
 use borrow.Author.Tests.{lt-ltb, le-ltb}
-use lib.Ieee.{Float, nan, inf, fin, Format, binary64, prec, up, down, round, unlike, sum, add, sub, mul, ofInt, eq, toSigned}
+use lib.Ieee.{Float, nan, inf, fin, Format, binary64, prec, up, down, round, unlike, sum, sub, mul, ofInt, eq}
 use lib.Ieee.Fits.{and-l}
 use lib.Ieee.Exact.{HasValue}
 use lib.Ieee.Back.{round-whole}
-use Rattle.lists.proofs.Bools.{cond-yes, cond-no}
+use Rattle.lists.proofs.Bools.{cond-no}
 use Rattle.numbers.specs.Casts.{cast-i16, double}
 use Rattle.numbers.specs.Literals.{+0}
 use Rattle.numbers.proofs.Value.{add-value, sub-value, mul-value, int-value, below-0}

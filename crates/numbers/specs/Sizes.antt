@@ -1,5 +1,5 @@
 -- How large a frame and the mixes are. Assumes nothing: these are definitions.
-use Prim.Native.Nat.{ℕ, _*_}
+use Prim.Native.Nat.{ℕ}
 
 -- the samples of a frame, of which each has a left and a right value
 abbrev pub «FRAME_SAMPLES» : ℕ

@@ -23,7 +23,7 @@ use Rattle.queue.specs.declared.Found.the-variants.{At, Nothing}
 use Rattle.dequeue.specs.Dequeue.{dequeuedBy, dequeued}
 use Rattle.track.specs.declared.Track.{Track}
 use Rattle.track.specs.Track.{trackOf, cursorOf, betweenSamples, heardAt, placeOf, soundOf}
-use Rattle.play.specs.Play.{Midst, Frame, at, opened, started, sounded, begunNext, next, onward}
+use Rattle.play.specs.Play.{Midst, Frame, at, started, sounded, begunNext, next, onward}
 use Rattle.play_laws.specs.Laws.{Entries, DecodedOnce}
 use Rattle.play_laws.proofs.Parts.{next-by, reached, madeOf, played-plays}
 use Rattle.play_laws.proofs.Counting.{onward-idle}

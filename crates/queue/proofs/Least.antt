@@ -3,15 +3,14 @@ use Prim.Native.Nat.{ℕ, zero, suc, _+_, _≤_, _<_}
 use mathlib.Core.Path.{_≡_, refl, sym, _∙_, ap, subst}
 use mathlib.Core.Bool.{Bool, true, false, cond}
 use mathlib.Core.List.{List}
-use mathlib.Core.Logic.{_⊎_, inl, inr, ⊎-elim}
+use mathlib.Core.Logic.{_⊎_, ⊎-elim}
 use native.Mathlib.Omega.{arith}
 use native.Mathlib.Numerals.{add-one}
-use lib.Dec.{ltb, eqb}
+use lib.Dec.{ltb}
 use borrow.Author.Tests.{lt-ltb, le-ltb, ltb-true, ltb-false, eq-eqb, ne-eqb}
 use Rattle.lists.proofs.Bools.{cond-yes, cond-no, cond-either}
 use Rattle.lists.proofs.Walk.{below-or}
 use Rattle.voice.specs.declared.record.Entry.{Entry}
-use Rattle.queue.specs.declared.Found.{Found}
 use Rattle.queue.specs.declared.Found.the-variants.{At, Nothing}
 use Rattle.queue.specs.Search.{idAt, least, searched, FirstOfSmallest, FindsFirst}
 

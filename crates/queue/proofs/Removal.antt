@@ -1,7 +1,7 @@
 -- What stands at each place of a queue without one of its places, and that the entries keep their order, by taking the list apart at the
 -- place. Assumes nothing.
 use Prim.Native.Nat.{ℕ, suc, _+_, _-_, _≤_, _<_}
-use mathlib.Core.Path.{_≡_, refl, sym, _∙_, ap}
+use mathlib.Core.Path.{_≡_, sym, _∙_, ap}
 use mathlib.Core.List.{List, [], _∷_, _++_}
 use native.Mathlib.Omega.{arith}
 use lib.ListN.{length, getD, take, drop, length-append, length-take, length-drop, take-append-drop, List·getD-append}
@@ -9,9 +9,7 @@ use lib.Seq.{length-take-le, getD-take, getD-append-add, getD-drop, getD-at, tak
 use lib.Seq.{take-append-add, take-append-le, take-take, take-add, drop-at}
 use Rattle.lists.proofs.Fill.{filled}
 use Rattle.voice.specs.Blank.{blankEntry}
-use Rattle.voice.specs.Malformed.{queuedIn}
 use Rattle.voice.specs.declared.record.Entry.{Entry}
-use Rattle.voice.specs.declared.record.Voice.{Voice}
 use Rattle.queue.specs.Removal.{without, removed, KeepsOrder}
 
 module _ (queue : List Entry) (place : ℕ) (inside : place < length queue) where

@@ -4,7 +4,7 @@
 ghost use mathlib.Core.Bool.{true};
 ghost use mathlib.Core.Path.{_≡_};
 ghost use Prim.Native.Nat.{_≤_, _<_};
-ghost use Rattle.voice.specs.Blank.{limit, places};
+ghost use Rattle.voice.specs.Blank.{limit};
 ghost use Rattle.queue.specs.Search.{searched};
 ghost use Rattle.queue.specs.Removal.{removed};
 ghost use Rattle.queue.specs.Played.{wasPlayed, markPlayed};

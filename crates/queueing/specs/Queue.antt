@@ -1,5 +1,5 @@
 -- Entries queued behind the others. Assumes nothing: these are definitions.
-use Prim.Native.Nat.{ℕ, _+_}
+use Prim.Native.Nat.{_+_}
 use mathlib.Core.List.{List, [], _∷_}
 use lib.ListN.{set}
 use Rattle.voice.specs.Set.{set-voice-queue, set-voice-queued}

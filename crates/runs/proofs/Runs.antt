@@ -3,14 +3,14 @@
 use mathlib.Core.Path.{_≡_, refl, sym, ap, ap₂, _∙_, subst}
 use mathlib.Core.Bool.{Bool}
 use mathlib.Core.List.{List, [], _∷_, _++_, map}
-use Prim.Native.Nat.{ℕ, zero, suc, _<_}
-use lib.ListN.{length, take, replicate}
+use Prim.Native.Nat.{ℕ, zero, suc}
+use lib.ListN.{length, take}
 use Rattle.layout.specs.declared.Layout.{Layout}
 use Rattle.voice_frame.specs.VoiceFrame.{Answer, served, refused}
 use Rattle.stems.specs.Alone.{leavesAlone, OneServed}
 use Rattle.stems.specs.Call.{put, serve, Refusal, Outcome, wholeNumber, aloneNumber}
 use Rattle.stems.specs.Memory.{Memory, Lent}
-use Rattle.stems.specs.Stems.{Frame, before, lent, Run}
+use Rattle.stems.specs.Stems.{Frame, before, lent}
 use Rattle.stems.specs.Whole.{memoryLeft, leaves, Listed, AllServed}
 use Rattle.stems.specs.declared.Fixed.{Fixed}
 use Rattle.stems.proofs.Exist.{runs-exist}

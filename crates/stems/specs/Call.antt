@@ -1,9 +1,8 @@
 -- One voice's frame in memory, voices served in turn, and the numbers of the two calls. What a call for all voices leaves, whatever its
 -- order, is in Whole.antt, and what a call for one voice alone leaves in Alone.antt. Assumes nothing: these are definitions.
-use mathlib.Core.Path.{_≡_}
 use Prim.Native.Nat.{ℕ, zero, suc, _*_}
 use mathlib.Core.Bool.{Bool, true, false, not, _||_, cond}
-use mathlib.Core.List.{List, [], _∷_, _++_, List·Permᴰ}
+use mathlib.Core.List.{List, [], _∷_, _++_}
 use lib.Dec.{eqb, ltb}
 use lib.IntN.{ℤ, pos, _+ℤ_}
 use lib.ListN.{length, getD, set, replicate}

@@ -16,14 +16,8 @@ Good v = Is (row the-type) v (val the-type the-laws v ∷ [])
 pub gain-12 : (v : Voice) → Good v → length (v .gain) ≡ 12
 gain-12 v g = sym (length-map (v .gain) _) ∙ g .1 .1 .1 .1 .1 .1 .1 .1 .0 .1 .0 .1
 
-pub marks-3 : (v : Voice) → Good v → length (v .«has_ramp») ≡ 3
-marks-3 v g = sym (length-map (v .«has_ramp») _) ∙ g .1 .1 .1 .1 .1 .1 .1 .1 .1 .0 .1 .0 .1
-
 pub ramp-12 : (v : Voice) → Good v → length (v .ramp) ≡ 12
 ramp-12 v g = sym (length-map (v .ramp) _) ∙ g .1 .1 .1 .1 .1 .1 .1 .1 .1 .1 .0 .1 .0 .1
-
-pub coefficients-16 : (v : Voice) → Good v → length (v .coefficients) ≡ 16
-coefficients-16 v g = sym (length-map (v .coefficients) _) ∙ g .1 .1 .1 .1 .1 .1 .1 .1 .1 .1 .1 .0 .1 .0 .1
 
 pub queue-places : (v : Voice) → Good v → length (v .queue) ≡ places
 queue-places v g = sym (length-map (v .queue) _) ∙ g .1 .1 .1 .1 .1 .1 .1 .1 .1 .1 .1 .1 .1 .0 .1 .0 .1

@@ -14,7 +14,7 @@ ghost use Rattle.adpcm.specs.Sizes.{mostSamples};
 ghost use Rattle.filters.specs.Range.{filtersInRange};
 ghost use Rattle.filters.specs.Process.{passedFrom, filtersAfter};
 ghost use Rattle.voice.specs.Malformed.{WellFormed};
-ghost use Rattle.voice_frame.specs.VoiceFrame.{filtered, sounding, soundingLane};
+ghost use Rattle.voice_frame.specs.VoiceFrame.{sounding, soundingLane};
 
 // A frame's samples after the filters, and the filters.
 struct Passed {

@@ -3,7 +3,7 @@
 use mathlib.Core.Path.{_≡_, refl, sym, ap, _∙_, subst}
 use mathlib.Core.Bool.{Bool, true, false, not, cond}
 use mathlib.Core.List.{List, [], Permᴰ·refl}
-use Prim.Native.Nat.{ℕ, zero, suc, _<_, _≤_}
+use Prim.Native.Nat.{ℕ, zero, suc, _<_}
 use native.Mathlib.Omega.{arith}
 use lib.Dec.{T, eqb}
 use lib.IntN.{ℤ}
@@ -11,11 +11,11 @@ use lib.ListN.{length}
 use Rattle.lists.specs.Some.{some}
 use Rattle.voice.specs.Malformed.{malformed}
 use Rattle.voice.specs.declared.record.Voice.{Voice}
-use Rattle.stems.specs.Call.{Refusal, secondRead, serveAll, refusalsIn, lengths, lengthsNumber, orElse, wholeNumber, noMixes, called}
+use Rattle.stems.specs.Call.{secondRead, refusalsIn, lengths, orElse, wholeNumber, called}
 use Rattle.stems.specs.Call.{allVoices}
 use Rattle.stems.specs.Memory.{Memory, Lent, laneLength}
 use Rattle.stems.specs.Inner.{Long}
-use Rattle.stems.specs.Whole.{Listed, leaves, refusals}
+use Rattle.stems.specs.Whole.{leaves, refusals}
 use Rattle.stems.specs.declared.Fixed.{Fixed}
 use Rattle.stems.proofs.Orders.{order}
 use Rattle.stems.proofs.Turns.{all-waiting, turns-long}
@@ -23,7 +23,6 @@ use Rattle.stems.proofs.Whole.{every-order-long, refusals-order}
 use Rattle.calls.specs.Refused.{listed, returned}
 use Rattle.calls.specs.Begin.{Fitting, beginning, lengthsCode}
 use Rattle.calls.specs.Lent.{lent}
-use Rattle.calls.specs.declared.refused.Refused.{Refused}
 use Rattle.calls.specs.declared.refused.Returned.{Returned}
 use Rattle.calls.specs.declared.begin.Turn.{Turn}
 use Rattle.turns.specs.Turns.{State, LongAt}

@@ -14,7 +14,6 @@ use Rattle.stems.specs.Memory.{Memory, laneLength}
 use Rattle.stems.specs.Inner.{LongAs}
 use Rattle.stems.specs.declared.Fixed.{Fixed}
 use Rattle.stems.proofs.Later.{serves-more, mixes-more, refusals-more, turns-more, refusals-few, up-long}
-use Rattle.stems.proofs.Serve.{Turn as InTurn}
 use Rattle.stems.proofs.Shape.{Fits}
 use Rattle.stems.proofs.Turns.{Turns, all-lengths}
 use Rattle.calls.specs.Refused.{listed, refusedAfter}

@@ -15,7 +15,7 @@ use Rattle.lists.proofs.Walk.{below-or}
 use Rattle.lists.proofs.Bools.{or-no, or-yes, and-no, and-yes, and-both, cond-yes, cond-no}
 use Rattle.lists.specs.Lowest.{rule, Given}
 use Rattle.lists.proofs.Lowest.{fails-if, lowest-given}
-use Rattle.window.specs.Window.{windowNumber, WindowExactly, presentIn, lookUp, LiesInside, AllInside, byteOf, LookedUp}
+use Rattle.window.specs.Window.{WindowExactly, presentIn, lookUp, LiesInside, AllInside, byteOf, LookedUp}
 
 pub window-exactly : (base size : ℕ) → WindowExactly base size
 window-exactly base size = record {

@@ -8,7 +8,7 @@ use Rattle.voice.specs.Set.{set-voice-fraction, set-voice-current-buffer-id, se
 use Rattle.voice.specs.Set.{set-voice-position}
 use Rattle.voice.specs.declared.record.Entry.{Entry}
 use Rattle.voice.specs.declared.record.Voice.{Voice}
-use mathlib.Core.Path.{_≡_, sym, ap, _∙_}
+use mathlib.Core.Path.{sym, _∙_}
 use Prim.Native.Nat.{ℕ}
 use Rattle.dequeue.specs.Dequeue.{begun, begunAt, startOf}
 use Rattle.dequeue.proofs.Laws.{history-brought, history-kept}

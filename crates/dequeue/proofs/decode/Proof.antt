@@ -7,7 +7,7 @@ use Rattle.adpcm.specs.declared.Decoded.{Decoded}
 use Rattle.adpcm.specs.declared.History.{History}
 use Rattle.adpcm.proofs.Nine.{well}
 use Rattle.voice.specs.Set.{set-voice-history, set-voice-decoded}
-use mathlib.Core.Path.{_≡_, sym, ap, _∙_}
+use mathlib.Core.Path.{ap, _∙_}
 use Rattle.dequeue.specs.Dequeue.{decodedVoice, decodedLane}
 use borrow.Author.Needs.{needs}
 use Rattle.dequeue.proofs.decode.Statement.{statement}

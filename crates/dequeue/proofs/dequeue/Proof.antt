@@ -11,7 +11,6 @@ use Rattle.voice.proofs.Formed.{entries-at}
 use Rattle.queue.specs.Search.{searched}
 use Rattle.queue.specs.declared.Found.the-variants.{At, Nothing}
 use Rattle.queue.proofs.Least.{found-queued}
-use Rattle.dequeue.specs.declared.Dequeued.{Dequeued}
 use Rattle.dequeue.specs.Dequeue.{entryAt, taken, begun, preparedVoice, preparedLane}
 use Rattle.dequeue.proofs.Laws.{dequeued-by, lane-by}
 use borrow.Author.Needs.{needs}

@@ -1,19 +1,16 @@
 -- `dequeue::prepare` meets its contract, by whether the entry is ADPCM and whether its bytes are present. Assumes nothing.
 use denote.Ref.{now}
-use mathlib.Core.Bool.{true, false}
+use mathlib.Core.Bool.{true}
 use mathlib.Core.Path.{_≡_, sym, ap, _∙_}
 use mathlib.Core.List.{List}
 use native.Mathlib.Omega.{arith}
-use Prim.Native.Nat.{ℕ, _≤_, _*_, _/_, _+_}
-use lib.IntN.{ℤ}
+use Prim.Native.Nat.{ℕ, _≤_, _*_}
 use lib.ListN.{length}
 use Rattle.adpcm.specs.Code.{framesOf}
 use Rattle.window.specs.Window.{presentIn, lookUp}
 use Rattle.window.proofs.Bytes.{there-long}
 use Rattle.voice.specs.Long.{isAdpcm}
-use Rattle.voice.specs.declared.record.Entry.{Entry}
-use Rattle.voice.specs.declared.record.Voice.{Voice}
-use Rattle.dequeue.specs.Dequeue.{aligned, adpcmIn, decodable, decodedVoice, decodedLane}
+use Rattle.dequeue.specs.Dequeue.{aligned, adpcmIn, decodedVoice, decodedLane}
 use Rattle.dequeue.proofs.Laws.{fits-lane, decodable-yes, decodable-absent, decodable-pcm, prepared-yes, prepared-no}
 use Rattle.dequeue.proofs.Laws.{lane-yes, lane-no}
 use borrow.Author.Needs.{needs}

@@ -1,7 +1,7 @@
 -- `dequeue::start_of` meets its contract, by whether the entry was played and which number is smaller. Assumes nothing.
 use Prim.Native.Nat.{min}
 use native.Mathlib.Omega.{arith}
-use mathlib.Core.Path.{_≡_, sym, ap, _∙_}
+use mathlib.Core.Path.{_≡_, sym, _∙_}
 use Rattle.lists.proofs.Bools.{cond-yes, cond-no}
 use Rattle.dequeue.specs.Dequeue.{startOf}
 use borrow.Author.Needs.{needs}

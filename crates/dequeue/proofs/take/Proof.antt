@@ -1,5 +1,5 @@
 -- `dequeue::take` meets its contract, by whether the entry loops. Assumes nothing.
-use mathlib.Core.Path.{_≡_, sym, ap, _∙_}
+use mathlib.Core.Path.{sym, ap, _∙_}
 use lib.ListN.{set}
 use Rattle.voice.specs.Blank.{blankEntry}
 use Rattle.voice.specs.Set.{set-voice-queue}

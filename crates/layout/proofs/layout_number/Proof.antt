@@ -1,7 +1,6 @@
 -- `layout::layout_number` meets its contract: each way out says which rule is the first that applies. Assumes nothing.
 use mathlib.Core.Path.{_≡_, refl, sym, ap, _∙_}
-use mathlib.Core.Bool.{Bool, true, false, not, _||_}
-use Prim.Native.Nat.{ℕ, _≤_}
+use mathlib.Core.Bool.{false, not, _||_}
 use lib.Dec.{eqb, ltb, lit<}
 use borrow.Author.Needs.{needs}
 use borrow.Author.Tests.{eq-eqb, ne-eqb, lt-ltb, le-ltb, not-true, not-false}

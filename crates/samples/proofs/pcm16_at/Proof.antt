@@ -1,6 +1,6 @@
 -- `samples::pcm16_at` meets its contract, by the number of channels. Assumes nothing.
 use denote.Ref.{now}
-use mathlib.Core.Path.{_≡_, sym, ap, _∙_}
+use mathlib.Core.Path.{sym, ap, _∙_}
 use Prim.Native.Nat.{ℕ}
 use Rattle.lists.proofs.Bools.{cond-yes, cond-no}
 use Rattle.window.specs.Window.{lookUp}

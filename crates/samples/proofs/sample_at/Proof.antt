@@ -1,6 +1,6 @@
 -- `samples::sample_at` meets its contract, by the entry's format. Assumes nothing.
 use denote.Ref.{now}
-use mathlib.Core.Path.{_≡_, sym, ap, _∙_}
+use mathlib.Core.Path.{sym, ap, _∙_}
 use Rattle.voice.specs.declared.record.Format.{Format}
 use Rattle.samples.specs.Samples.{sampleBy, sampleAt}
 use borrow.Author.Needs.{needs}

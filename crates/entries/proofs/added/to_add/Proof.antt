@@ -1,5 +1,5 @@
 -- `entries::added::to_add` meets its contract: the flag of the slots decides. Assumes nothing.
-use mathlib.Core.Path.{_≡_, sym, ap, _∙_}
+use mathlib.Core.Path.{sym, ap, _∙_}
 use mathlib.Core.List.{List, [], _++_, append-nil}
 use native.Mathlib.Omega.{arith}
 use Rattle.lists.proofs.Bools.{cond-yes, cond-no}

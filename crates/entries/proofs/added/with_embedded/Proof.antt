@@ -1,6 +1,6 @@
 -- `entries::added::with_embedded` meets its contract: the flag decides. Assumes nothing.
-use mathlib.Core.Path.{_≡_, refl, sym, ap, _∙_}
-use mathlib.Core.List.{List, [], _∷_}
+use mathlib.Core.Path.{sym, ap, _∙_}
+use mathlib.Core.List.{[], _∷_}
 use native.Mathlib.Omega.{arith}
 use Rattle.lists.proofs.Bools.{cond-yes, cond-no}
 use Rattle.voice.specs.declared.record.Entry.{Entry}

@@ -1,5 +1,5 @@
 -- `entries::added::with_slot` meets its contract: whether the slot adds an entry decides. Assumes nothing.
-use mathlib.Core.Path.{_≡_, sym, ap, _∙_}
+use mathlib.Core.Path.{sym, ap, _∙_}
 use mathlib.Core.List.{List, [], _∷_, _++_, append-nil}
 use native.Mathlib.Omega.{arith}
 use Rattle.lists.proofs.Bools.{cond-yes, cond-no}

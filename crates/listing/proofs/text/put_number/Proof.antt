@@ -1,7 +1,7 @@
 -- `listing::text::put_number` meets its contract: what stands from the first digit on, or from the sign before it, is the numeral. Assumes
 -- nothing.
 use mathlib.Core.Path.{_≡_, refl, sym, ap, _∙_}
-use mathlib.Core.List.{List, _∷_, _++_}
+use mathlib.Core.List.{List, _∷_}
 use Prim.Native.Nat.{ℕ, suc, _-_, _≤_, _<_}
 use native.Mathlib.Omega.{arith}
 use lib.ListN.{length, take, drop, set, length-append, length-set}

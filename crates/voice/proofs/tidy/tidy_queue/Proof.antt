@@ -3,8 +3,8 @@
 use Prim.Native.Nat.{ℕ, _-_, _≤_, _<_}
 use mathlib.Core.List.{List}
 use mathlib.Core.Logic.{⊎-elim}
-use mathlib.Core.Path.{_≡_, sym, _∙_, ap, subst}
-use lib.ListN.{length, replicate, length-replicate}
+use mathlib.Core.Path.{sym, _∙_, ap, subst}
+use lib.ListN.{replicate, length-replicate}
 use native.Mathlib.Omega.{arith}
 use borrow.Author.Tests.{ltb-true, ltb-false}
 use Rattle.lists.proofs.Fill.{Filling, filling-none, filling-more}
