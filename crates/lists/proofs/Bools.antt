@@ -12,6 +12,10 @@ and-no y e = ap (λ (b : Bool). b && y) e
 pub and-yes : {x : Bool} (y : Bool) → x ≡ true → (x && y) ≡ y
 and-yes y e = ap (λ (b : Bool). b && y) e
 
+pub and-not : (x : Bool) {y : Bool} → y ≡ false → (x && y) ≡ false
+and-not true e = e
+and-not false e = refl
+
 pub or-no : {x : Bool} (y : Bool) → x ≡ false → (x || y) ≡ y
 or-no y e = ap (λ (b : Bool). b || y) e
 

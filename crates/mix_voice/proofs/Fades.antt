@@ -1,6 +1,6 @@
 -- The parts in a mix that may fade, sample by sample, and what each mix gets of a voice's gains and marks. Assumes nothing.
 use mathlib.Core.Path.{_≡_, refl, sym, ap, _∙_, subst}
-use mathlib.Core.Bool.{Bool, true, false, _||_, cond}
+use mathlib.Core.Bool.{Bool, true, false, not, _&&_, _||_, cond}
 use mathlib.Core.List.{List}
 use mathlib.Core.Logic.{⊎-elim}
 use Prim.Native.Nat.{ℕ, _+_, _*_, _/_, _%_, _≤_, _<_}
@@ -10,12 +10,13 @@ use lib.Ieee.{Float, ne}
 use lib.IntN.{ℤ, pos}
 use lib.ListN.{length, getD}
 use Rattle.lists.specs.Tabulate.{tabulate}
-use Rattle.lists.proofs.Bools.{cond-no, or-neither}
+use borrow.Author.Tests.{not-true}
+use Rattle.lists.proofs.Bools.{cond-no, and-both, or-neither}
 use Rattle.lists.proofs.Tabulate.{length-tabulate, getD-tabulate, tabulated}
 use Rattle.lists.proofs.Walk.{below-or}
 use Rattle.mixing.specs.Gain.{fading}
 use Rattle.mix_voice.specs.declared.sums.Gains.{Gains}
-use Rattle.mix_voice.specs.Mixed.{sampleAt, partOf, rampedAt, summed, ramped, Unmarked, partAt, voiced, gainsOf, pick}
+use Rattle.mix_voice.specs.Mixed.{sampleAt, partOf, rampedAt, summed, ramped, noneMarked, Unmarked, partAt, voiced, gainsOf, pick}
 use Rattle.mix_voice.specs.Mixed.{steadyAt, eitherAt, changing}
 use Rattle.mix_voice.specs.Mixed.{mixed, four}
 use Rattle.mix_voice.proofs.Turns.{Mixing, mix-turn, row-is, three-mixes}
@@ -119,3 +120,10 @@ module _ (marks : List Bool) (ramp gains : List Float) (frame : List ℤ) where
           (λ (l : 640 ≤ k). ⊎-elim (λ (u : k < 1280). at k 1 (omega arith) (z .1 .0)) (λ (u : 1280 ≤ k). at k 2 (omega arith) (z .1 .1))
           (below-or k 1280))
           (below-or k 640)
+
+pub unmarked-says : (marks : List Bool) → noneMarked marks ≡ true → Unmarked marks
+unfolding noneMarked
+unmarked-says marks t =
+    let a = and-both (not (getD marks 0 false)) (not (getD marks 1 false) && not (getD marks 2 false)) t in
+    let b = and-both (not (getD marks 1 false)) (not (getD marks 2 false)) (a .1) in
+    (not-true _ (a .0), (not-true _ (b .0), not-true _ (b .1)))

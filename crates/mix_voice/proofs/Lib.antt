@@ -6,5 +6,6 @@ pub mod Own
 pub mod Way
 pub mod Turns
 pub mod Silence
+pub mod Heard
 pub mod Stays
 pub mod Fades

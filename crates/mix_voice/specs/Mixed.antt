@@ -1,7 +1,7 @@
 -- What a voice's frame adds to the mixes, which are "1,920 signed 32-bit numbers (by mix, then channel, then sample)".
 -- Assumes nothing: these are definitions.
 use mathlib.Core.Path.{_≡_}
-use mathlib.Core.Bool.{Bool, false, _&&_, _||_, cond}
+use mathlib.Core.Bool.{Bool, false, not, _&&_, _||_, cond}
 use mathlib.Core.List.{List}
 use Prim.Native.Nat.{ℕ, _+_, _*_, _/_, _%_}
 use lib.Dec.{eqb}
@@ -54,6 +54,9 @@ unfoldable pub ramped : List Bool → List Float → List Float → List ℤ →
 ramped marks from to frame mixes = tabulate (λ k. summed (getD mixes k (pos 0)) (rampedAt marks from to frame k)) MIXES
 
 -- ---- on the way: where there is no ramp
+
+unfoldable pub noneMarked : List Bool → Bool
+noneMarked marks = not (getD marks 0 false) && (not (getD marks 1 false) && not (getD marks 2 false))
 
 abbrev pub Unmarked : List Bool → Type 0
 Unmarked marks = (getD marks 0 false ≡ false) × ((getD marks 1 false ≡ false) × (getD marks 2 false ≡ false))

@@ -1,11 +1,13 @@
 -- What the quick way to a sample's part goes through. Assumes nothing: these are definitions.
-use mathlib.Core.Bool.{Bool, true, false, _&&_, cond}
+use mathlib.Core.Bool.{Bool, true, false, not, _&&_, cond}
+use mathlib.Core.List.{List}
 use Prim.Native.Nat.{ℕ, _*_, _≤_}
 use lib.IntN.{ℤ, pos, negsuc}
 use lib.Ieee.{Float, nan, inf, fin, up, down, neg, lt, le}
 use Rattle.numbers.specs.Literals.{+0}
 use Rattle.numbers.specs.Held.{at-most, at-least}
 use Rattle.mix_voice.specs.declared.sums.Gains.{Gains}
+use Rattle.mix_voice.specs.Mixed.{gainsOf, silent}
 
 -- the largest gain that it takes, 32
 abbrev pub «QUICK_GAIN» : Float
@@ -18,6 +20,14 @@ quick g = le +0 g && le g «QUICK_GAIN»
 -- four of them
 unfoldable pub allQuick : Gains → Bool
 allQuick g = quick (g .g0) && (quick (g .g1) && (quick (g .g2) && quick (g .g3)))
+
+-- a mix that is heard, at gains that it takes
+unfoldable pub heard : Gains → Bool
+heard g = not (silent g) && allQuick g
+
+-- each of the three
+unfoldable pub allHeard : List Float → Bool
+allHeard gains = heard (gainsOf gains 0) && (heard (gainsOf gains 1) && heard (gainsOf gains 2))
 
 -- a quarter on either side of 0
 abbrev pub +¼ : Float

@@ -14,11 +14,11 @@ use numbers::ranged::ranged16;
 use numbers::ranged::ranged32;
 ghost use mathlib.Core.Path.{_≡_};
 ghost use mathlib.Core.Bool.{true};
-ghost use Prim.Native.Nat.{ℕ, _<_};
+ghost use Prim.Native.Nat.{_<_};
 ghost use lib.ListN.{length};
 ghost use Rattle.numbers.specs.Sizes.{FRAME, MIXES, GAINS};
-ghost use Rattle.mix_voice.specs.Quick.{allQuick};
-ghost use Rattle.mix_voice.specs.Mixed.{gainsOf, steadyAt, eitherAt, changing, mixed, Unmarked, ramped};
+ghost use Rattle.mix_voice.specs.Quick.{allHeard};
+ghost use Rattle.mix_voice.specs.Mixed.{steadyAt, eitherAt, changing, mixed, noneMarked, ramped};
 
 // The largest size of a gain to fade from or to the quick way: on the way it is at most three times that.
 const FADING_GAIN: f32 = 16.0;
@@ -131,7 +131,7 @@ fn each_mix(mixes: &mut [i32], frame: &[i16], gains: &[f32], ramp: &[f32], marks
 
 // Whether no mix fades.
 fn none_fades(marks: [bool; 3]) -> bool
-    ensures { λ r. ⌜ (r ≡ true → Unmarked marks) ⌝ }
+    ensures { λ r. ⌜ r ≡ noneMarked marks ⌝ }
 {
     if marks[0] {
         return false;
@@ -145,7 +145,7 @@ fn none_fades(marks: [bool; 3]) -> bool
 // Whether each mix is heard, at gains that the quick way takes.
 fn all_heard(gains: &[f32]) -> bool
     requires { ⌜ length (now gains) ≡ GAINS ⌝ }
-    ensures { λ r. ⌜ (r ≡ true → (m : ℕ) → m < 3 → allQuick (gainsOf (now (gains .entry)) m) ≡ true) ⌝ }
+    ensures { λ r. ⌜ r ≡ allHeard (now (gains .entry)) ⌝ }
 {
     let mut m = 0;
     while m < 3 {

@@ -28,7 +28,8 @@ use Rattle.numbers.proofs.Cell.{cell-le, cell-ge, round-value}
 use Rattle.numbers.proofs.Value.{add-value, sub-value, over}
 use Rattle.numbers.proofs.Floor.{times-lt, times-le, times-ge, scaled-less, lt-is, whole-value}
 use Rattle.steps.proofs.Kept.{kept, round-plus}
-use Rattle.steps.specs.Steady.{Part, Slow, is-part, is-slow, steady}
+use Rattle.steps.specs.declared.step.Cursor.{Cursor}
+use Rattle.steps.specs.Steady.{Part, Slow, is-part, is-slow, steady, quickWay}
 
 abbrev L : ℕ
 L = 2 ^ low binary64
@@ -312,6 +313,14 @@ steady-says f r t =
     let b = and-both (le +0 f) (lt f +1) (a .0) in
     let c = and-both (lt +0 r) (lt r (fin false 1 (pos 31))) (a .1) in
     (part-test f (b .0) (b .1), slow-test r (c .0) (c .1))
+
+pub quick-way-says : (c : Cursor) (r : Float) (room : ℕ) → quickWay c r room ≡ true
+    → Part (c .fraction) × Slow r × (room * (cast-u32 r + 1) + 1 < c .remaining)
+unfolding quickWay
+quick-way-says c r room t =
+    let a = and-both (steady (c .fraction) r) (ltb (room * (cast-u32 r + 1) + 1) (c .remaining)) t in
+    let b = steady-says (c .fraction) r (a .0) in
+    (b .0, b .1, ltb-true (room * (cast-u32 r + 1) + 1) (c .remaining) (a .1))
 
 -- a whole number as a float and back
 pub whole-back : (k : ℕ) → k < 4294967296 → cast-u32 (double (pos k)) ≡ k

@@ -2,10 +2,13 @@
 -- Assumes nothing: these are definitions.
 use mathlib.Core.Path.{_≡_}
 use mathlib.Core.Bool.{Bool, true, false, _&&_}
-use Prim.Native.Nat.{_*_, _<_}
+use Prim.Native.Nat.{ℕ, _+_, _*_, _<_}
+use lib.Dec.{ltb}
 use lib.IntN.{pos}
 use lib.Ieee.{Float, nan, inf, fin, up, down, lt, le}
+use Rattle.numbers.specs.Casts.{cast-u32}
 use Rattle.numbers.specs.Literals.{+0, +1}
+use Rattle.steps.specs.declared.step.Cursor.{Cursor}
 
 -- a number from 0 to below 1, either zero among them
 abbrev pub Part : Float → Type 0
@@ -29,3 +32,7 @@ is-slow rate = lt +0 rate && lt rate (fin false 1 (pos 31))
 -- both at once
 unfoldable pub steady : Float → Float → Bool
 steady fraction rate = is-part fraction && is-slow rate
+
+-- where the quick way goes for so many steps: even if each takes one more than the whole part of the rate, two samples are left
+unfoldable pub quickWay : Cursor → Float → ℕ → Bool
+quickWay c rate room = steady (c .fraction) rate && ltb (room * (cast-u32 rate + 1) + 1) (c .remaining)

@@ -7,13 +7,13 @@ use numbers::sizes::FRAME_SAMPLES;
 ghost use mathlib.Core.Path.{_≡_};
 ghost use Prim.Native.Nat.{_+_, _*_, _≤_, _<_};
 ghost use lib.ListN.{length};
-ghost use mathlib.Core.Bool.{true, cond};
+ghost use mathlib.Core.Bool.{cond};
 ghost use lib.IntN.{pos};
 ghost use lib.Ieee.{lt};
 ghost use Rattle.numbers.specs.Casts.{cast-u32, double};
 ghost use Rattle.numbers.specs.Literals.{+0, +1};
 ghost use Rattle.numbers.specs.Sizes.{«FRAME_SAMPLES»};
-ghost use Rattle.steps.specs.Steady.{Part, Slow, is-part, is-slow, steady};
+ghost use Rattle.steps.specs.Steady.{Part, Slow, is-part, is-slow, steady, quickWay};
 ghost use Rattle.steps.specs.Stretch.{Walked, Stretched};
 
 // How far a stretch came: where it left off, and how many samples it made.
@@ -161,7 +161,7 @@ fn walk_steady(
 // Whether the quick way goes: not where the entry might end within the room.
 fn is_quick(c: Cursor, rate: f64, room: usize) -> bool
     requires { ⌜ room ≤ «FRAME_SAMPLES» ⌝ }
-    ensures { λ r. ⌜ (r ≡ true → Part (c .fraction) × Slow rate × (room * (cast-u32 rate + 1) + 1 < c .remaining)) ⌝ }
+    ensures { λ r. ⌜ r ≡ quickWay c rate room ⌝ }
 {
     if is_steady(c.fraction, rate) {
         let most = whole_part(rate) + 1;

@@ -1,7 +1,7 @@
 -- What is stored from places and fractions is what a track gives: a mono sample is its left value twice, what was fetched is found again,
 -- and a walk notes where the cursors are. Assumes nothing.
 use mathlib.Core.Path.{_≡_, refl, sym, ap, _∙_, subst}
-use mathlib.Core.Bool.{Bool, true, false, _&&_, _||_, not}
+use mathlib.Core.Bool.{Bool, true, false, _||_, not}
 use mathlib.Core.Logic.{⊎-elim}
 use mathlib.Core.List.{List}
 use Prim.Native.Nat.{ℕ, zero, suc, _+_, _-_, _≤_, _<_}
@@ -11,7 +11,7 @@ use lib.IntN.{ℤ}
 use lib.ListN.{length, getD}
 use lib.Ieee.{Float, nan, eq}
 use Rattle.lists.proofs.Walk.{below-or}
-use Rattle.lists.proofs.Bools.{cond-yes, clash, and-both, and-no, and-yes}
+use Rattle.lists.proofs.Bools.{cond-yes, clash, and-both, and-no, and-not, and-yes}
 use Rattle.numbers.specs.Literals.{+0, +1}
 use Rattle.voice.specs.Long.{isAdpcm}
 use Rattle.voice.specs.declared.record.Entry.{Entry}
@@ -97,10 +97,6 @@ unfolding allZero
 zero-not fractions i zero e =
     let none : suc i ≡ suc i + 0 = omega arith in
     subst (λ (k : ℕ). allZero fractions k ≡ false) none (and-not (allZero fractions i) e)
-  where
-    and-not : (x : Bool) {y : Bool} → y ≡ false → (x && y) ≡ false
-    and-not true e = e
-    and-not false e = refl
 zero-not fractions i (suc d) e =
     let next : suc (suc i + d) ≡ suc i + suc d = omega arith in
     subst (λ (k : ℕ). allZero fractions k ≡ false) next (and-no _ (zero-not fractions i d e))

@@ -4,9 +4,9 @@ use Prim.Native.Nat.{ℕ, _+_, _*_, _≤_, _<_}
 use native.Mathlib.Nat.{mul-le-mul}
 use native.Mathlib.Omega.{arith}
 use borrow.Author.Needs.{needs}
-use borrow.Author.Tests.{ltb-true}
-use Rattle.lists.proofs.Bools.{clash}
-use Rattle.steps.proofs.Steady.{steady-says}
+use lib.Dec.{ltb}
+use Rattle.lists.proofs.Bools.{and-no, and-yes}
+use Rattle.steps.specs.Steady.{quickWay}
 use Rattle.steps.proofs.stretch.is_quick.Statement.{statement}
 use Rattle.steps.proofs.stretch.is_quick.Tie as tie
 
@@ -37,17 +37,17 @@ cast-result : tie.Need-cast-result
 cast-result c = search needs
 
 returns : tie.Need-returns
+unfolding quickWay
 returns c =
     let p = c .before in
     let t = p .before in
-    let s = t .before .before in
-    let a = s .args in
-    let steady = steady-says (a .c .fraction) (a .rate) (sym (t .before .is-steady .ensures) ∙ t .if1 .taken) in
-    let most = ap (λ (n : ℕ). a .room * (n + 1)) (p .whole-part .ensures .0) in
-    λ yes. (steady .0, steady .1, omega (arith, most, ltb-true (a .room * (p .whole-part .result + 1) + 1) (a .c .remaining) yes))
+    let a = t .before .before .args in
+    ap (λ (n : ℕ). ltb (a .room * (n + 1) + 1) (a .c .remaining)) (p .whole-part .ensures .0)
+    ∙ sym (and-yes _ (sym (t .before .is-steady .ensures) ∙ t .if1 .taken))
 
 returns-2 : tie.Need-returns-2
-returns-2 c = λ yes. absurd (clash (sym yes))
+unfolding quickWay
+returns-2 c = sym (and-no _ (sym (c .before .is-steady .ensures) ∙ c .if1 .left))
 
 pub is-quick-spec : {M : Type 1} → statement M
 is-quick-spec =

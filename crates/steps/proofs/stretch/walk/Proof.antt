@@ -1,5 +1,7 @@
 -- `steps::stretch::walk` meets its contract: either way has it. Assumes nothing.
+use mathlib.Core.Path.{sym, _∙_}
 use borrow.Author.Needs.{needs}
+use Rattle.steps.proofs.Steady.{quick-way-says}
 use Rattle.steps.proofs.stretch.walk.Statement.{statement}
 use Rattle.steps.proofs.stretch.walk.Tie as tie
 
@@ -11,7 +13,7 @@ walk-steady-requires c κs =
     let t = c .before .before in
     let s = t .before .before in
     let p = s .pre in
-    let q = t .before .is-quick .ensures (t .if1 .taken) in
+    let q = quick-way-says (s .args .c) (s .args .rate) (s .args .room) (sym (t .before .is-quick .ensures) ∙ t .if1 .taken) in
     (p .0, (p .1 .0, (p .1 .1 .0, (p .1 .1 .1 .0, (p .1 .1 .1 .1, (q .0, (q .1, q .2)))))))
 
 returns : tie.Need-returns
