@@ -33,6 +33,7 @@ is-slow rate = lt +0 rate && lt rate (fin false 1 (pos 31))
 unfoldable pub steady : Float → Float → Bool
 steady fraction rate = is-part fraction && is-slow rate
 
--- where the quick way goes for so many steps: even if each takes one more than the whole part of the rate, two samples are left
+-- where the quick way goes for so many steps: fraction and rate are such, and even if each step takes one more than the whole part of the
+-- rate, two samples are left
 unfoldable pub quickWay : Cursor → Float → ℕ → Bool
 quickWay c rate room = steady (c .fraction) rate && ltb (room * (cast-u32 rate + 1) + 1) (c .remaining)
