@@ -2,6 +2,7 @@
 // lengths. It answers 9 and leaves the output where the count is over 65,536, the bytes are not the count's whole frames, or the output is
 // too short; else it fills the first places of the output and gives the last two samples as the new history. Frames of eight bytes are
 // handed on as parts of the bytes, and the part of the output that a frame fills is lent to it.
+#![tactic(auto)]
 ghost use Rattle.std.specs.Prelude.{◌≡◌, ◌++◌, min, ◌*◌, ◌/◌, ◌%◌, ◌^◌, ◌≤◌, ◌<◌, length, take, drop, get_or, pos};
 ghost use Rattle.numbers.specs.Within.{Is};
 ghost use Rattle.adpcm.specs.Code.{code, first_nibble, second_nibble, nibbles, codes_by, frame_codes, frames_of, signed_nibble};
@@ -17,7 +18,7 @@ const FRAME_SAMPLES: usize = 14;
 const MOST_SAMPLES: usize = 65536;
 
 // The last two samples, the newer first, which the next ones follow on from.
-#[derive(Drop)]
+#[derive(Clone, Copy)]
 pub struct History {
     pub yn1: i16,
     pub yn2: i16,
@@ -229,7 +230,7 @@ fn decode_all(
 }
 
 // What a decode answers: 0, or 9 where it is refused, and the history.
-#[derive(Drop)]
+#[derive(Clone, Copy)]
 pub struct Decoded {
     pub number: u8,
     pub history: History,

@@ -12,7 +12,7 @@ use region::current_region;
 use stems::Fixed;
 
 // What a call carries from voice to voice: whether it is region 1 that is read, and the voices refused so far.
-#[derive(Drop)]
+#[derive(Clone, Copy)]
 pub struct Turn {
     pub second: bool,
     pub refused: Refused,

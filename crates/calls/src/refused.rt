@@ -6,7 +6,7 @@ ghost use Rattle.calls.specs.Refused.{listed, refused_after, returned};
 pub const VOICES: usize = 24;
 
 // So many voices, in the order in which they were refused, each with its number at the same place. The places behind them hold 0.
-#[derive(Drop)]
+#[derive(Clone, Copy)]
 pub struct Refused {
     pub count: usize,
     pub voices: [u8; VOICES],
@@ -14,7 +14,7 @@ pub struct Refused {
 }
 
 // What a call gives back: 0, or the number of its refusal, and the voices refused.
-#[derive(Drop)]
+#[derive(Clone, Copy)]
 pub struct Returned {
     pub number: u8,
     pub refused: Refused,

@@ -3,4 +3,5 @@
 // refused by 20 or 21, with all of it as it was, or the entries are queued (both `queueing`) and the dirty word cleared. The lengths are
 // required, and of the record that its queue is not over 64 and no more is left of its entry than its length: of a well-formed record both
 // hold. What a configuration comes to as a whole is said in `config_laws`.
+#![tactic(auto)]
 pub mod parse;

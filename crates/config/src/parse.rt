@@ -17,7 +17,7 @@ use settings::{dirty, steps};
 use voice::record::Voice;
 
 // What a configuration comes to: 0, or the number of the refusal, and the record.
-#[derive(Drop)]
+#[derive(Clone, Copy)]
 pub struct Configured {
     pub number: u8,
     pub voice: Voice,

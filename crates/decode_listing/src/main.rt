@@ -1,4 +1,5 @@
 // The decode listing program: reads an input, and writes the listing of its decode.
+#![tactic(auto)]
 use libc::{STDIN_FILENO, STDOUT_FILENO};
 use listing::sizes;
 

@@ -3,6 +3,7 @@
 // loops, the record's counters and history are set for it, and ADPCM is decoded into the lane then and there. Nothing is refused:
 // `dequeue` asks that no more is queued than a record has room for and that each queued ADPCM entry fits the lane, which a record that is
 // not malformed has.
+#![tactic(auto)]
 ghost use Rattle.std.specs.Prelude.{false, ◌≡◌, ◌*◌, ◌≤◌, ◌<◌, length};
 ghost use Rattle.adpcm.specs.Code.{frames_of};
 ghost use Rattle.adpcm.specs.Sizes.{frame_bytes, most_samples};
@@ -19,7 +20,7 @@ use voice::record::{Entry, Voice};
 use window::{physical, present};
 
 // What a dequeue comes to: the record, and whether an entry was queued.
-#[derive(Drop)]
+#[derive(Clone, Copy)]
 pub struct Dequeued {
     pub voice: Voice,
     pub found: bool,

@@ -16,7 +16,7 @@ pub const ADDED: usize = 5;
 pub const SLOTS: usize = 4;
 
 // The first so many of the entries, in the order in which they are queued.
-#[derive(Drop)]
+#[derive(Clone, Copy)]
 pub struct Added {
     pub entries: [Entry; ADDED],
     pub count: usize,

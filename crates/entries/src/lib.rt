@@ -2,5 +2,6 @@
 // channels that the entries take; the embedded entry and those of the slots (`entry`) go out as one list of at most five, in the order in
 // which they are queued (`added`). The length of the bytes is required; nothing is refused, and no memory is written. `config` counts the
 // list for 20, looks through it for 21 and queues it.
+#![tactic(auto)]
 pub mod added;
 pub mod entry;

@@ -42,23 +42,23 @@ pub const CONFIG_SIZE: usize = 192;
 
 // Each constant is the offset of the field of its name, and the size is that of the table.
 pub fn offsets()
-    ensures* do_value { do ⌜ (← (⟦DIRTY⟧).entry) ≡ offset_of configuration "DIRTY" ⌝ }
-    ensures* do_value_2 { do ⌜ (← (⟦GAIN⟧).entry) ≡ offset_of configuration "GAIN" ⌝ }
-    ensures* do_value_3 { do ⌜ (← (⟦RATE_MULTIPLIER⟧).entry) ≡ offset_of configuration "RATE_MULTIPLIER" ⌝ }
-    ensures* do_value_4 { do ⌜ (← (⟦INTERPOLATION⟧).entry) ≡ offset_of configuration "INTERPOLATION" ⌝ }
-    ensures* do_value_5 { do ⌜ (← (⟦FILTERS_ENABLED⟧).entry) ≡ offset_of configuration "FILTERS_ENABLED" ⌝ }
-    ensures* do_value_6 { do ⌜ (← (⟦SIMPLE_FILTER⟧).entry) ≡ offset_of configuration "SIMPLE_FILTER" ⌝ }
-    ensures* do_value_7 { do ⌜ (← (⟦BIQUAD_FILTER⟧).entry) ≡ offset_of configuration "BIQUAD_FILTER" ⌝ }
-    ensures* do_value_8 { do ⌜ (← (⟦BUFFERS_DIRTY⟧).entry) ≡ offset_of configuration "BUFFERS_DIRTY" ⌝ }
-    ensures* do_value_9 { do ⌜ (← (⟦BUFFERS⟧).entry) ≡ offset_of configuration "BUFFERS" ⌝ }
-    ensures* do_value_10 { do ⌜ (← (⟦ENABLE⟧).entry) ≡ offset_of configuration "ENABLE" ⌝ }
-    ensures* do_value_11 { do ⌜ (← (⟦SYNC_COUNT⟧).entry) ≡ offset_of configuration "SYNC_COUNT" ⌝ }
-    ensures* do_value_12 { do ⌜ (← (⟦PLAY_POSITION⟧).entry) ≡ offset_of configuration "PLAY_POSITION" ⌝ }
-    ensures* do_value_13 { do ⌜ (← (⟦ADDRESS⟧).entry) ≡ offset_of configuration "ADDRESS" ⌝ }
-    ensures* do_value_14 { do ⌜ (← (⟦LENGTH⟧).entry) ≡ offset_of configuration "LENGTH" ⌝ }
-    ensures* do_value_15 { do ⌜ (← (⟦FLAGS1⟧).entry) ≡ offset_of configuration "FLAGS1" ⌝ }
-    ensures* do_value_16 { do ⌜ (← (⟦ADPCM_YN⟧).entry) ≡ offset_of configuration "ADPCM_YN" ⌝ }
-    ensures* do_value_17 { do ⌜ (← (⟦FLAGS2⟧).entry) ≡ offset_of configuration "FLAGS2" ⌝ }
-    ensures* do_value_18 { do ⌜ (← (⟦BUFFER_ID⟧).entry) ≡ offset_of configuration "BUFFER_ID" ⌝ }
-    ensures config_size_value { CONFIG_SIZE ≡ total configuration }
+    ensures dirty { DIRTY ≡ offset_of configuration "DIRTY" }
+    ensures gain { GAIN ≡ offset_of configuration "GAIN" }
+    ensures rate_multiplier { RATE_MULTIPLIER ≡ offset_of configuration "RATE_MULTIPLIER" }
+    ensures interpolation { INTERPOLATION ≡ offset_of configuration "INTERPOLATION" }
+    ensures filters_enabled { FILTERS_ENABLED ≡ offset_of configuration "FILTERS_ENABLED" }
+    ensures simple_filter { SIMPLE_FILTER ≡ offset_of configuration "SIMPLE_FILTER" }
+    ensures biquad_filter { BIQUAD_FILTER ≡ offset_of configuration "BIQUAD_FILTER" }
+    ensures buffers_dirty { BUFFERS_DIRTY ≡ offset_of configuration "BUFFERS_DIRTY" }
+    ensures buffers { BUFFERS ≡ offset_of configuration "BUFFERS" }
+    ensures enable { ENABLE ≡ offset_of configuration "ENABLE" }
+    ensures sync_count { SYNC_COUNT ≡ offset_of configuration "SYNC_COUNT" }
+    ensures play_position { PLAY_POSITION ≡ offset_of configuration "PLAY_POSITION" }
+    ensures address { ADDRESS ≡ offset_of configuration "ADDRESS" }
+    ensures length { LENGTH ≡ offset_of configuration "LENGTH" }
+    ensures flags1 { FLAGS1 ≡ offset_of configuration "FLAGS1" }
+    ensures adpcm_yn { ADPCM_YN ≡ offset_of configuration "ADPCM_YN" }
+    ensures flags2 { FLAGS2 ≡ offset_of configuration "FLAGS2" }
+    ensures buffer_id { BUFFER_ID ≡ offset_of configuration "BUFFER_ID" }
+    ensures config_size { CONFIG_SIZE ≡ total configuration }
 {}

@@ -16,10 +16,10 @@ pub const CONFIG_SIZE: usize = 44;
 
 // Each constant is the offset of the field of its name, and the size is that of the table.
 pub fn offsets()
-    ensures* do_value { do ⌜ (← (⟦DIRTY⟧).entry) ≡ offset_of mixer_configuration "DIRTY" ⌝ }
-    ensures* do_value_2 { do ⌜ (← (⟦MASTER_VOLUME⟧).entry) ≡ offset_of mixer_configuration "MASTER_VOLUME" ⌝ }
-    ensures* do_value_3 { do ⌜ (← (⟦AUX_RETURN_VOLUME⟧).entry) ≡ offset_of mixer_configuration "AUX_RETURN_VOLUME" ⌝ }
-    ensures* do_value_4 { do ⌜ (← (⟦OUTPUT_FORMAT⟧).entry) ≡ offset_of mixer_configuration "OUTPUT_FORMAT" ⌝ }
-    ensures* do_value_5 { do ⌜ (← (⟦AUX_BUS_ENABLE⟧).entry) ≡ offset_of mixer_configuration "AUX_BUS_ENABLE" ⌝ }
-    ensures config_size_value { CONFIG_SIZE ≡ total mixer_configuration }
+    ensures dirty { DIRTY ≡ offset_of mixer_configuration "DIRTY" }
+    ensures master_volume { MASTER_VOLUME ≡ offset_of mixer_configuration "MASTER_VOLUME" }
+    ensures aux_return_volume { AUX_RETURN_VOLUME ≡ offset_of mixer_configuration "AUX_RETURN_VOLUME" }
+    ensures output_format { OUTPUT_FORMAT ≡ offset_of mixer_configuration "OUTPUT_FORMAT" }
+    ensures aux_bus_enable { AUX_BUS_ENABLE ≡ offset_of mixer_configuration "AUX_BUS_ENABLE" }
+    ensures config_size { CONFIG_SIZE ≡ total mixer_configuration }
 {}

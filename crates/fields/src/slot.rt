@@ -18,11 +18,11 @@ pub const BUFFER_SIZE: usize = 20;
 
 // Each constant is the offset of the field of its name, and the size is that of the table.
 pub fn offsets()
-    ensures* do_value { do ⌜ (← (⟦ADDRESS⟧).entry) ≡ offset_of slot "ADDRESS" ⌝ }
-    ensures* do_value_2 { do ⌜ (← (⟦LENGTH⟧).entry) ≡ offset_of slot "LENGTH" ⌝ }
-    ensures* do_value_3 { do ⌜ (← (⟦ADPCM_YN⟧).entry) ≡ offset_of slot "ADPCM_YN" ⌝ }
-    ensures* do_value_4 { do ⌜ (← (⟦HAS_ADPCM⟧).entry) ≡ offset_of slot "HAS_ADPCM" ⌝ }
-    ensures* do_value_5 { do ⌜ (← (⟦LOOPING⟧).entry) ≡ offset_of slot "LOOPING" ⌝ }
-    ensures* do_value_6 { do ⌜ (← (⟦BUFFER_ID⟧).entry) ≡ offset_of slot "BUFFER_ID" ⌝ }
-    ensures buffer_size_value { BUFFER_SIZE ≡ total slot }
+    ensures address { ADDRESS ≡ offset_of slot "ADDRESS" }
+    ensures length { LENGTH ≡ offset_of slot "LENGTH" }
+    ensures adpcm_yn { ADPCM_YN ≡ offset_of slot "ADPCM_YN" }
+    ensures has_adpcm { HAS_ADPCM ≡ offset_of slot "HAS_ADPCM" }
+    ensures looping { LOOPING ≡ offset_of slot "LOOPING" }
+    ensures buffer_id { BUFFER_ID ≡ offset_of slot "BUFFER_ID" }
+    ensures buffer_size { BUFFER_SIZE ≡ total slot }
 {}

@@ -18,11 +18,11 @@ pub const STATUS_SIZE: usize = 12;
 
 // Each constant is the offset of the field of its name, and the size is that of the table.
 pub fn offsets()
-    ensures* do_value { do ⌜ (← (⟦ENABLED⟧).entry) ≡ offset_of status "ENABLED" ⌝ }
-    ensures* do_value_2 { do ⌜ (← (⟦BUFFER_UPDATE⟧).entry) ≡ offset_of status "BUFFER_UPDATE" ⌝ }
-    ensures* do_value_3 { do ⌜ (← (⟦SYNC_COUNT⟧).entry) ≡ offset_of status "SYNC_COUNT" ⌝ }
-    ensures* do_value_4 { do ⌜ (← (⟦POSITION⟧).entry) ≡ offset_of status "POSITION" ⌝ }
-    ensures* do_value_5 { do ⌜ (← (⟦CURRENT_BUFFER_ID⟧).entry) ≡ offset_of status "CURRENT_BUFFER_ID" ⌝ }
-    ensures* do_value_6 { do ⌜ (← (⟦LAST_BUFFER_ID⟧).entry) ≡ offset_of status "LAST_BUFFER_ID" ⌝ }
-    ensures status_size_value { STATUS_SIZE ≡ total status }
+    ensures enabled { ENABLED ≡ offset_of status "ENABLED" }
+    ensures buffer_update { BUFFER_UPDATE ≡ offset_of status "BUFFER_UPDATE" }
+    ensures sync_count { SYNC_COUNT ≡ offset_of status "SYNC_COUNT" }
+    ensures position { POSITION ≡ offset_of status "POSITION" }
+    ensures current_buffer_id { CURRENT_BUFFER_ID ≡ offset_of status "CURRENT_BUFFER_ID" }
+    ensures last_buffer_id { LAST_BUFFER_ID ≡ offset_of status "LAST_BUFFER_ID" }
+    ensures status_size { STATUS_SIZE ≡ total status }
 {}

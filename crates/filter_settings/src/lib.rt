@@ -1,6 +1,7 @@
 // Of module 4, the configuration of a voice: what the flags of its dirty word do to its filters. `filters_step` takes the record by value
 // and the voice's 192 bytes, and gives the record back with its filters switched and given coefficients as the definitions of `settings`
 // say. The length of the bytes is required; nothing is refused, and no memory is written.
+#![tactic(auto)]
 ghost use Rattle.std.specs.Prelude.{◌≡◌, cond, ◌+◌, ◌≤◌, pos, length, replicate};
 ghost use Rattle.fields.specs.Fields.{configuration, total};
 ghost use Rattle.filters.specs.Defaults.{default_simple, default_biquad};

@@ -3,6 +3,7 @@
 // Nothing is refused: `process` asks that coefficients and state of filters that are on lie from -32768 to 32768 (`range`), which a record
 // that is not malformed has. `step` is one filter on one sample, `run` one filter over all samples, `defaults` what a filter is before a
 // title sets it.
+#![tactic(auto)]
 pub mod defaults;
 pub mod process;
 pub mod range;

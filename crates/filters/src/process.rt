@@ -9,7 +9,7 @@ use crate::run::{run_biquad, run_simple};
 use crate::state::Filters;
 
 // What a sample comes out as, and the filters after it: the definitions of `process` speak of it.
-#[derive(Drop)]
+#[derive(Clone, Copy)]
 pub struct Passed {
     pub filters: Filters,
     pub value: i16,

@@ -1,7 +1,7 @@
 // The two filters that a voice may have, each with its coefficients and what it keeps of each channel.
 
 // The first order filter, y = b0 x + a1 y1, with 15 fraction bits.
-#[derive(Drop)]
+#[derive(Clone, Copy)]
 pub struct SimpleFilter {
     pub b0: i32,
     pub a1: i32,
@@ -9,7 +9,7 @@ pub struct SimpleFilter {
 }
 
 // The second order filter, with 14 fraction bits and its feedback negated. Of x and y the newer pair of channels stands first.
-#[derive(Drop)]
+#[derive(Clone, Copy)]
 pub struct BiquadFilter {
     pub b: [i32; 3],
     pub a: [i32; 2],
@@ -18,7 +18,7 @@ pub struct BiquadFilter {
 }
 
 // A filter counts only where its mark is on.
-#[derive(Drop)]
+#[derive(Clone, Copy)]
 pub struct Filters {
     pub has_simple: bool,
     pub simple: SimpleFilter,

@@ -5,6 +5,7 @@
 //   1  an ADPCM decode (decode.rt)
 //   2  a decode listing (listed.rt)
 //   3  a call of the mixer (crate mixer_jobs)
+#![tactic(auto)]
 mod decode;
 mod listed;
 mod number;

@@ -1,13 +1,14 @@
 // The seven places of a region, and the numbers 1, 2 and 3. `layout_number` takes the lengths of the two regions and the offsets that a
 // caller lends, for any values of these, and gives the lowest number that applies, or 0. It reads no memory. A call that goes on with 0
 // knows that each place lies in both regions and that no two share a byte (`Sound`, `accepted`).
+#![tactic(auto)]
 ghost use Rattle.std.specs.Prelude.{◌≡◌, ◌≤◌, leb, drop};
 ghost use Rattle.layout.specs.Places.{end, places_of, apart_two, inside, apart_from, apart, layout_number};
 
 use fields::{config, mixer_config, status};
 
 // Where each place begins, the same in both regions.
-#[derive(Drop)]
+#[derive(Clone, Copy)]
 pub struct Layout {
     pub configurations: u32,
     pub statuses: u32,
@@ -19,7 +20,7 @@ pub struct Layout {
 }
 
 // A place: so many bytes from an offset on.
-#[derive(Drop)]
+#[derive(Clone, Copy)]
 pub struct Place {
     pub at: u32,
     pub size: u32,

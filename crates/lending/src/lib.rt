@@ -1,6 +1,7 @@
 // Lends a program's records to the calls for all voices and for one voice alone, for tests only: a program holds its records in an array,
 // and code over an array by value is covered, where code over a lent slice of records is not. `frame` and `stem` lend the first so many,
 // and refuse nothing of their own.
+#![tactic(auto)]
 ghost use Rattle.std.specs.Prelude.{◌++◌, ◌≡◌, ◌≤◌, take, drop};
 ghost use Rattle.stems.specs.Call.{whole_number, alone_number};
 ghost use Rattle.calls.specs.Lent.{lent};
@@ -17,7 +18,7 @@ use voices::tick;
 pub const MOST: usize = 25;
 
 // The records after a call, and what the call gave back.
-#[derive(Drop)]
+#[derive(Clone, Copy)]
 pub struct Framed {
     pub vs: [Voice; MOST],
     pub answer: Returned,

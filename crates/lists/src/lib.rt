@@ -1,1 +1,2 @@
 // Lists as contracts speak of them: definitions (specs/) and their laws (proofs/). No code.
+#![tactic(auto)]

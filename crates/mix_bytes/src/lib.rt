@@ -1,6 +1,7 @@
 // Of module 7, mixes and final samples as bytes in a region, little-endian. `hear` takes a mix from the bytes that a title returned where
 // its aux bus is on, else from the mixes given; `send` writes a mix at its place where the bus is on; `put_frame` writes the final samples.
 // Nothing is refused: that the places lie in the region is required, which the mixer's call knows from an accepted layout.
+#![tactic(auto)]
 ghost use Rattle.std.specs.Prelude.{◌≡◌, cond, ◌+◌, ◌≤◌, length};
 ghost use Rattle.lists.specs.Splice.{splice};
 ghost use Rattle.numbers.specs.Sizes.{FRAME, MIX};

@@ -12,7 +12,7 @@ const TWO_CHANNELS: usize = 320;
 const THREE_CHANNELS: usize = 480;
 
 // The gains of a mix, by channel.
-#[derive(Drop)]
+#[derive(Clone, Copy)]
 pub struct Gains {
     pub g0: f32,
     pub g1: f32,

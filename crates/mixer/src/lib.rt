@@ -4,4 +4,5 @@
 // and the state as it was and writes nothing. Else the configuration in the region read changes the state (`mixer_state`), the mixes are
 // heard and added in turn and the frame goes to the other region (`mixer_frame`, over `mix_bytes` and `downmix`), and the dirty word is
 // cleared.
+#![tactic(auto)]
 pub mod tick;

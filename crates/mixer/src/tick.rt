@@ -12,7 +12,7 @@ use mixer_state::configuration::{clear_dirty, parse_config};
 use numbers::sizes::{FRAME, MIXES};
 
 // What a call gives back: 0, or the number of its refusal; the state; and 160 pairs of final samples.
-#[derive(Drop)]
+#[derive(Clone, Copy)]
 pub struct Mixed {
     pub number: u8,
     pub mixer: Mixer,

@@ -1,6 +1,7 @@
 // Test only: the mixer's state, its layout and its frame in bytes. Numbers are little-endian, words have 32 bits. The state has 16 bytes:
 // the volumes' bits as words; aux 0, aux 1 and mono, 1 for on; a zero. The layout has seven offsets as words, in document 01's order, and
 // the frame 320 halves. Nothing is refused: each function asks for its bytes.
+#![tactic(auto)]
 ghost use Rattle.std.specs.Prelude.{◌+◌, ◌≤◌, length};
 
 use layout::Layout;

@@ -13,6 +13,7 @@
 //   4  the state
 //  20  the frame
 // 660  a sum over every byte of region 0, and one of region 1, as words
+#![tactic(auto)]
 ghost use Rattle.std.specs.Prelude.{◌≡◌, ◌+◌, ◌≤◌, length};
 
 use little::read32;

@@ -2,12 +2,13 @@
 // by value and the configuration's 44 bytes and gives the state back, each field changed only where its bit of the dirty word is set;
 // `clear_dirty` then clears that word in the region. Nothing is refused: the lengths are required, which the mixer's call knows from an
 // accepted layout.
+#![tactic(auto)]
 pub mod configuration;
 
 ghost use Rattle.std.specs.Prelude.{◌≡◌};
 ghost use Rattle.mixer_state.specs.State.{default_mixer};
 
-#[derive(Drop)]
+#[derive(Clone, Copy)]
 pub enum Output {
     Mono,
     Stereo,
@@ -15,7 +16,7 @@ pub enum Output {
 
 // How loud each mix comes out, the first the master volume and the others the aux returns; whether mixes 1 and 2 go through the title;
 // and the output kind.
-#[derive(Drop)]
+#[derive(Clone, Copy)]
 pub struct Mixer {
     pub volume: [f32; 3],
     pub aux: [bool; 2],

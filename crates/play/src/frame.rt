@@ -16,7 +16,7 @@ use track::{Track, cursor_of, track_of};
 use voice::record::Voice;
 
 // What a frame comes to: the record, and how many samples were produced.
-#[derive(Drop)]
+#[derive(Clone, Copy)]
 pub struct Played {
     pub voice: Voice,
     pub produced: usize,

@@ -1,6 +1,7 @@
 // Of module 5, the queue of a voice: its search, what leaves it, and the mark of an entry that was played. `search` takes a record and
 // answers where the first entry of smallest id stands, or that none is queued. `remove` takes the entry at a place out; the others keep
 // their order. Nothing is refused: both ask that no more entries are queued than the record has room for. No memory is read or written.
+#![tactic(auto)]
 ghost use Rattle.std.specs.Prelude.{true, ◌≡◌, ◌≤◌, ◌<◌};
 ghost use Rattle.voice.specs.Blank.{limit};
 ghost use Rattle.queue.specs.Search.{searched};
@@ -14,7 +15,7 @@ use voice::record::{Entry, Voice};
 const LAST: usize = PLACES - 1;
 
 // What a search comes to: the place of the entry, or nothing, of an empty queue.
-#[derive(Drop)]
+#[derive(Clone, Copy)]
 pub enum Found {
     At(usize),
     Nothing,

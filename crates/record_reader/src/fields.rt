@@ -3,7 +3,7 @@ ghost use Rattle.std.specs.Prelude.{◌≡◌, length};
 
 use crate::entries::format_of;
 use crate::filtering::filters_of;
-use crate::lists::singles_at;
+use crate::singles::singles_at;
 use crate::parts::{code, half, on, word};
 use adpcm::History;
 use numbers::whole::to_signed16;

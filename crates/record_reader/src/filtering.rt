@@ -1,7 +1,7 @@
 // The record's filters.
 ghost use Rattle.std.specs.Prelude.{◌≡◌, length};
 
-use crate::lists::signed_at;
+use crate::singles::signed_at;
 use crate::parts::on;
 use filters::state::{BiquadFilter, Filters, SimpleFilter};
 

@@ -1,6 +1,7 @@
 // Replays a fixed list of the oracle's answers. Standard input holds jobs: a word that says a kind, a word that says how many bytes follow,
 // and these bytes, the job's part. The crate jobs says what the kinds are and what their parts; the answer to each goes out. A part longer
 // than 37,494 bytes, or one that has no answer, ends the program. oracle/record wrote the list.
+#![tactic(auto)]
 ghost use Rattle.std.specs.Prelude.{◌≤◌};
 
 use jobs::sizes::{LONGEST_PART, ROOM};

@@ -1,6 +1,7 @@
 // Answers jobs for the oracle: whole calls, for all voices, of the mixer and for one voice alone. `jobs` tells a job's form and its
 // answer's. Standard input holds jobs, one after the other, and what is answered goes to standard output; a bad job ends the program. stdin
 // and stdout are a fixed list that oracle/record wrote.
+#![tactic(auto)]
 use crate::jobs::{LANES, MIXES, RECORDS, REGION, ROOM, WINDOW, answer};
 
 mod bytes;

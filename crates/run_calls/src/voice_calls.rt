@@ -10,7 +10,7 @@ use stems::Fixed;
 use voice::record::Voice;
 
 // What is called, the call for one voice alone, which has this number, or else the call for all voices; and what either is handed.
-#[derive(Drop)]
+#[derive(Clone, Copy)]
 struct Called {
     alone: bool,
     voice: usize,

@@ -3,6 +3,7 @@
 // output, is told at the heads of `configuration`, `filtering`, `playing` and `serving`. Every number is little-endian, and a record stands
 // in bytes as record_reader has them. Another kind, a number that is out of bounds, and a job that is cut off end the
 // program. stdin and stdout are a fixed list that oracle/record wrote.
+#![tactic(auto)]
 
 mod configuration;
 mod filtering;

@@ -2,6 +2,7 @@
 // base and the sample's address, and give both channels, of a mono sample the same twice. One look-up serves both channels, and where a
 // byte is absent both are 0. An ADPCM sample comes from the lane, where it was decoded: `decoded_at`. `sample_at` is the sample at an
 // index of an entry of any kind. Nothing is refused; the lane is asked to hold what was decoded.
+#![tactic(auto)]
 ghost use Rattle.std.specs.Prelude.{◌≡◌, ◌+◌, ◌*◌, ◌%◌, ◌^◌, ◌≤◌, length};
 ghost use Rattle.window.specs.Window.{look_up};
 ghost use Rattle.dequeue.specs.Dequeue.{aligned};
@@ -15,7 +16,7 @@ use voice::record::{Entry, Format};
 use window::physical;
 
 // A sample: left and right.
-#[derive(Drop)]
+#[derive(Clone, Copy)]
 pub struct Sample {
     pub left: i16,
     pub right: i16,

@@ -2,6 +2,7 @@
 // voice's 192 bytes, the coefficients' step the 32 bytes of those too, and gives the record back, changed only where its flag is set. The
 // lengths are required; lengthening also requires that no more is left of the entry being played than its length. The step of the filters
 // is `filter_settings`. `config` takes the steps in their order; the entries are those of `entries` and `queueing`.
+#![tactic(auto)]
 pub mod dirty;
 pub mod gains;
 pub mod steps;

@@ -3,6 +3,7 @@
 // room there is, and notes where each sample lies and its fraction, until the room is used or fewer than two samples of the entry would be
 // left. It asks that two are left at first. It may come nowhere: the caller then takes one sample as the definition has it, a step at a
 // time. At rate 1.0 from a fraction of 0.0 nothing has to be noted, and `plain::reach` tells how far the steps come.
+#![tactic(auto)]
 pub mod plain;
 pub mod step;
 pub mod stretch;

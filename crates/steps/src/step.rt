@@ -5,7 +5,7 @@ ghost use Rattle.steps.specs.Step.{moved};
 use numbers::casts::{at_least_0, cast_u32, double_of_u32};
 
 // Where playing is in an entry: how many of its samples remain, and how far it is past the first of them.
-#[derive(Drop)]
+#[derive(Clone, Copy)]
 pub struct Cursor {
     pub remaining: u32,
     pub fraction: f64,

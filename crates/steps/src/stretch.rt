@@ -13,7 +13,7 @@ use numbers::casts::{at_least_0, whole_u32};
 use numbers::sizes::FRAME_SAMPLES;
 
 // How far a stretch came: where it left off, and how many samples it made.
-#[derive(Drop)]
+#[derive(Clone, Copy)]
 pub struct Reached {
     pub cursor: Cursor,
     pub count: usize,

@@ -2,6 +2,7 @@
 // remain, and the fraction. `sound` gives the sample that a voice produces there: the entry's own, or, with interpolation and a fraction
 // other than 0, the one between it and the next. Nothing is refused; what remains must be no more than the record's length, and the lane
 // must hold what was decoded.
+#![tactic(auto)]
 ghost use Rattle.std.specs.Prelude.{◌≡◌, ◌≤◌, ◌<◌, ◌-◌, min, length};
 ghost use Rattle.track.specs.Track.{is_plain, track_of, cursor_of, between_samples, heard_at, sound_of};
 ghost use Rattle.track.specs.Laid.{put};
@@ -15,7 +16,7 @@ use voice::record::{Entry, Interpolation, Voice};
 
 // What is fixed while an entry plays: the entry, where its mark is on; the record's length, and how many samples of the lane were decoded;
 // the rate; and whether samples are taken as they are.
-#[derive(Drop)]
+#[derive(Clone, Copy)]
 pub struct Track {
     pub has_playing: bool,
     pub playing: Entry,

@@ -3,7 +3,7 @@ use crate::blank::PLACES;
 use adpcm::History;
 use filters::state::Filters;
 
-#[derive(Drop)]
+#[derive(Clone, Copy)]
 pub enum Format {
     Pcm8,
     Pcm16,
@@ -11,7 +11,7 @@ pub enum Format {
 }
 
 // Polyphase is a value of its own and plays as linear.
-#[derive(Drop)]
+#[derive(Clone, Copy)]
 pub enum Interpolation {
     Polyphase,
     Linear,
@@ -20,7 +20,7 @@ pub enum Interpolation {
 
 // An entry of the queue, the source's `Buffer`. The fields stand by their sizes, so that there are no gaps between them: entries are most
 // of a record, and a record is copied often.
-#[derive(Drop)]
+#[derive(Clone, Copy)]
 pub struct Entry {
     pub address: u32,
     pub length: u32,
@@ -37,13 +37,13 @@ pub struct Entry {
 }
 
 // What a store to a single field does not reach: enums are replaced together.
-#[derive(Drop)]
+#[derive(Clone, Copy)]
 pub struct Kinds {
     pub format: Format,
     pub interpolation: Interpolation,
 }
 
-#[derive(Drop)]
+#[derive(Clone, Copy)]
 pub struct Voice {
     pub enabled: bool,
     pub sync_count: u16,

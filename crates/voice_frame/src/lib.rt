@@ -3,6 +3,7 @@
 // its base, the mixes, and the voice's status in the other region. It answers the number and the record. A voice that is refused, by 20 or
 // 21, keeps record, lane, configuration and status and adds nothing to the mixes. Nothing else is refused: the record must be well-formed
 // for the lane, and the parts of their lengths. What it does is the definition `voiceFrame` (specs/VoiceFrame).
+#![tactic(auto)]
 pub mod mixes;
 pub mod serve;
 pub mod sound;

@@ -19,7 +19,7 @@ use voice::record::Voice;
 use voice::tidy::tidy;
 
 // What serving a voice comes to: 0, or the number of its refusal, and the record.
-#[derive(Drop)]
+#[derive(Clone, Copy)]
 pub struct Served {
     pub number: u8,
     pub voice: Voice,

@@ -14,7 +14,7 @@ use play::frame::play_frame;
 use voice::record::Voice;
 
 // A frame's samples after the filters, and the filters.
-#[derive(Drop)]
+#[derive(Clone, Copy)]
 struct Passed {
     frame: [i16; FRAME],
     filters: Filters,

@@ -9,7 +9,7 @@ use record_reader::record_of;
 use record_writer::put_record;
 use voice::record::Voice;
 
-#[derive(Drop)]
+#[derive(Clone, Copy)]
 pub struct Passed {
     pub frame: [i16; 320],
     pub filters: Filters,

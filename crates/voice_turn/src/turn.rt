@@ -14,7 +14,7 @@ use voice::record::Voice;
 use voice_frame::serve::Served;
 
 // What a voice's turn comes to: what the call carries on, and the voice's record.
-#[derive(Drop)]
+#[derive(Clone, Copy)]
 pub struct Taken {
     pub turn: Turn,
     pub v: Voice,

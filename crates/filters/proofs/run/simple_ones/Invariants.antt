@@ -1,0 +1,19 @@
+-- `filters::run::simple_ones` meets its contract: after i turns the first i samples are passed, and the filter is in range. Assumes
+-- nothing.
+use Prim.Native.Nat.{◌-◌, ◌<◌}
+use native.Mathlib.Omega.{arith}
+use lib.Dec.{T}
+use lib.ListN.{length}
+use borrow.Author.Rules.{rules}
+use Rattle.filters.specs.Range.{simple_in_range}
+use Rattle.filters.specs.Filter.{simple_value}
+use Rattle.filters.specs.Inner.{simple_next}
+use Rattle.filters.proofs.Runs.{Done, start, turn, finish}
+use Rattle.filters.proofs.run.simple_ones.Given as goal
+
+abbrev pub invariant-loop-i : goal.invariant-loop-i
+invariant-loop-i l =
+    Done simple_value simple_next l.initial.f l.initial.samples l.samples l.f l.channel l.i × T (simple_in_range l.f) × (l.channel < 2)
+
+abbrev pub decreases-loop-i : goal.decreases-loop-i
+decreases-loop-i l = length l.initial.samples - l.i

@@ -1,0 +1,13 @@
+-- `listing::text::put` meets its contract: a turn takes one byte off the front of what is left to put. Assumes nothing.
+use mathlib.Core.Path.{refl}
+use Prim.Native.Nat.{◌-◌}
+use lib.ListN.{length}
+use borrow.Author.Rules.{rules}
+use Rattle.listing.proofs.Puts.{Putting, putting_none, putting_more, putting_all}
+use Rattle.listing.proofs.text.put.Given as goal
+
+abbrev pub invariant-loop-i : goal.invariant-loop-i
+invariant-loop-i l = Putting l.text l.initial.output l.initial.next l.output l.next l.i
+
+abbrev pub decreases-loop-i : goal.decreases-loop-i
+decreases-loop-i l = length l.text - l.i

@@ -1,0 +1,17 @@
+-- `mixing::gain::at_gain` meets its contract: each callee says its part of the definition. Assumes nothing.
+use mathlib.Core.Path.{ap, ◌∙◌}
+use lib.Ieee.{binary32, mul}
+use mir.Syntax.{w32}
+use mir.Facts.{to_z-of_z}
+use Rattle.numbers.specs.Casts.{cast_i32, single}
+use Rattle.numbers.proofs.Bounds.{result_read}
+use Rattle.mixing.specs.Gain.{at_gain}
+use Rattle.mixing.proofs.gain.at_gain.Goals as goal
+
+pub returns : goal.returns
+unfolding at_gain
+returns c =
+    let sample = c.single_of_i16.ensures ∙ ap single (to_z-of_z c.ranges.sample) in
+    result_read w32 c.cast_i32.result c.cast_i32.type_inv
+    ∙ c.cast_i32.ensures
+    ∙ (λ k. cast_i32 (mul binary32 c.args.gain (sample k)))

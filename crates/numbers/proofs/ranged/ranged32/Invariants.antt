@@ -1,0 +1,11 @@
+-- `numbers::ranged::ranged32` meets its contract: each value that is read is known to be one of its type. Assumes nothing.
+use Rattle.std.proofs.Common.{ℕ, ◌-◌, ◌<◌, ◌≤◌, length, get_or, ℤ, pos, arith, lit<, rules, below_none, below_more}
+use lib.Signed.{mag}
+use Rattle.lists.proofs.Walk.{everywhere}
+use Rattle.numbers.proofs.ranged.ranged32.Given as goal
+
+abbrev pub invariant-loop-i : goal.invariant-loop-i
+invariant-loop-i l = (l.i ≤ length l.values) × ((k : ℕ) → k < l.i → mag (get_or l.values k (pos 0)) < 2147483648)
+
+abbrev pub decreases-loop-i : goal.decreases-loop-i
+decreases-loop-i l = length l.values - l.i

@@ -1,0 +1,14 @@
+-- `steps::plain::reach` meets its contract, by the laws of Whole. Assumes nothing.
+use native.Mathlib.Omega.{arith}
+use Rattle.numbers.proofs.Literals.{zero_64}
+use Rattle.steps.proofs.Whole.{none_reached, some_reached}
+use Rattle.steps.proofs.plain.reach.Goals as goal
+
+pub returns-then-count-eq0 : goal.returns-then-count-eq0
+returns-then-count-eq0 c =
+    none_reached c.args.c c.args.room c.requires.fraction_value (omega arith)
+
+pub returns : goal.returns
+returns c =
+    let n = c.fewer-count.result in
+    some_reached c.args.c c.args.room n _ c.requires.fraction_value zero_64 (omega arith) (omega arith) (omega arith)

@@ -1,0 +1,17 @@
+-- `steps::stretch::is_steady` meets its contract. Assumes nothing.
+use mathlib.Core.Path.{sym, ◌∙◌}
+use Rattle.lists.proofs.Bools.{and_yes, and_no}
+use Rattle.steps.specs.Steady.{is_slow, steady}
+use Rattle.steps.proofs.stretch.is_steady.Goals as goal
+
+pub returns-then-is_part : goal.returns-then-is_part
+unfolding steady
+returns-then-is_part c =
+    let a = c.args in
+    c.is_slow.ensures ∙ sym (and_yes (is_slow a.rate) (sym c.is_part.ensures ∙ c.if-is_part.true))
+
+pub returns : goal.returns
+unfolding steady
+returns c =
+    let a = c.args in
+    sym (and_no (is_slow a.rate) (sym c.is_part.ensures ∙ c.if-is_part.false))
