@@ -4,6 +4,7 @@
 // left. It asks that two are left at first. It may come nowhere: the caller then takes one sample as the definition has it, a step at a
 // time. At rate 1.0 from a fraction of 0.0 nothing has to be noted, and `plain::reach` tells how far the steps come.
 #![tactic(auto)]
+
 pub mod plain;
 pub mod step;
 pub mod stretch;
