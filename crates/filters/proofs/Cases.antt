@@ -27,14 +27,16 @@ unfolding simple_value simple_sum
 simple_wraps = refl
 
 pub biquad_wraps :
-    biquad_value 0 (biquad (negsuc 32767 ∷ negsuc 32767 ∷ pos 0 ∷ []) (pos 0 ∷ pos 0 ∷ []) (negsuc 32767 ∷ pos 0 ∷ pos 0 ∷ pos 0 ∷ []) zeros)
+    biquad_value 0
+    (biquad (negsuc 32767 ∷ negsuc 32767 ∷ pos 0 ∷ []) (pos 0 ∷ pos 0 ∷ []) (negsuc 32767 ∷ pos 0 ∷ pos 0 ∷ pos 0 ∷ []) zeros)
     (negsuc 32767) ≡ negsuc 32767
 unfolding biquad_value biquad_sum
 biquad_wraps = refl
 
 -- the simple filter halves and the biquad one doubles: 1 is 0 and then 0, where the other order would give 2 and then 1
 pub simple_first :
-    (pass 0 (on (simple (pos 16384) (pos 0) (pos 0 ∷ pos 0 ∷ [])) (biquad (pos 32768 ∷ pos 0 ∷ pos 0 ∷ []) (pos 0 ∷ pos 0 ∷ []) zeros zeros))
+    (pass 0
+    (on (simple (pos 16384) (pos 0) (pos 0 ∷ pos 0 ∷ [])) (biquad (pos 32768 ∷ pos 0 ∷ pos 0 ∷ []) (pos 0 ∷ pos 0 ∷ []) zeros zeros))
     (pos 1)).value ≡ pos 0
 unfolding pass pass_simple pass_biquad simple_value simple_sum biquad_value biquad_sum
 simple_first = refl

@@ -93,8 +93,8 @@ biquad_identity channel f x b a h =
     let y2 = get_or f.y (channel + 2) (pos 0) in
     let s = pos 16384 *ℤ x in
     ap (λ (z : ℤ). clamp16 (shr_z (wrap32 z) 16384))
-    ((λ i. get_or (b i) 0 (pos 0) *ℤ x +ℤ get_or (b i) 1 (pos 0) *ℤ x1 +ℤ get_or (b i) 2 (pos 0) *ℤ x2 +ℤ get_or (a i) 0 (pos 0) *ℤ y1 +ℤ get_or
-    (a i) 1 (pos 0) *ℤ y2)
+    ((λ i. get_or (b i) 0 (pos 0) *ℤ x +ℤ get_or (b i) 1 (pos 0) *ℤ x1 +ℤ get_or (b i) 2 (pos 0) *ℤ x2
+    +ℤ get_or (a i) 0 (pos 0) *ℤ y1 +ℤ get_or (a i) 1 (pos 0) *ℤ y2)
     ∙ no_more (s +ℤ pos 0 *ℤ x1 +ℤ pos 0 *ℤ x2 +ℤ pos 0 *ℤ y1) y2
     ∙ no_more (s +ℤ pos 0 *ℤ x1 +ℤ pos 0 *ℤ x2) y1
     ∙ no_more (s +ℤ pos 0 *ℤ x1) x2

@@ -75,7 +75,8 @@ biquad_whole f p =
     (both (all_in_range f.a) (all_in_range f.x && all_in_range f.y) p.a (both (all_in_range f.x) (all_in_range f.y) p.x p.y))
 
 pub simple_kept :
-    (channel : ℕ) (f : SimpleFilter) (value : ℤ) → T (simple_in_range f) → SFits w16 value → T (simple_in_range (simple_after channel f value))
+    (channel : ℕ) (f : SimpleFilter) (value : ℤ) → T (simple_in_range f) → SFits w16 value
+    → T (simple_in_range (simple_after channel f value))
 simple_kept channel f value t h =
     let p = simple_parts f t in
     simple_whole (simple_after channel f value)

@@ -63,6 +63,19 @@ module _ {S : Type 0} (value : ℕ → S → ℤ → ℤ) (next : ℕ → S → 
     turn_to now f channel i k out g to h d e q =
         subst (λ (j : ℕ). Done first old out g (1 - channel) j) to (turn now f channel i out g h d e q)
 
+    -- four samples more, left and right in turn
+    pub four :
+        {now out₁ out₂ out₃ out₄ : List ℤ} {f g₁ g₂ g₃ g₄ : S} (i : ℕ) → i + 3 < length old → Done first old now f 0 i
+        → out₁ ≡ one_passed value 0 f now i → g₁ ≡ next 0 f (get_or now i (pos 0))
+        → out₂ ≡ one_passed value 1 g₁ out₁ (i + 1) → g₂ ≡ next 1 g₁ (get_or out₁ (i + 1) (pos 0))
+        → out₃ ≡ one_passed value 0 g₂ out₂ (i + 2) → g₃ ≡ next 0 g₂ (get_or out₂ (i + 2) (pos 0))
+        → out₄ ≡ one_passed value 1 g₃ out₃ (i + 3) → g₄ ≡ next 1 g₃ (get_or out₃ (i + 3) (pos 0)) → Done first old out₄ g₄ 0 (i + 4)
+    four {now} {out₁} {out₂} {out₃} {out₄} {f} {g₁} {g₂} {g₃} {g₄} i h d e₁ q₁ e₂ q₂ e₃ q₃ e₄ q₄ =
+        turn_to out₃ g₃ 1 (i + 3) (i + 4) out₄ g₄ (omega arith) h
+        (turn_to out₂ g₂ 0 (i + 2) (i + 3) out₃ g₃ (omega arith) (omega arith)
+        (turn_to out₁ g₁ 1 (i + 1) (i + 2) out₂ g₂ (omega arith) (omega arith)
+        (turn now f 0 i out₁ g₁ (omega arith) d e₁ q₁) e₂ q₂) e₃ q₃) e₄ q₄
+
     pub finish :
         (now : List ℤ) (f : S) (channel i : ℕ) → length old ≤ i → Done first old now f channel i
         → (now ≡ goal) × (f ≡ after_all next 0 first old)

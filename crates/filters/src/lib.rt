@@ -4,6 +4,7 @@
 // that is not malformed has. `step` is one filter on one sample, `run` one filter over all samples, `defaults` what a filter is before a
 // title sets it.
 #![tactic(auto)]
+
 pub mod defaults;
 pub mod process;
 pub mod range;

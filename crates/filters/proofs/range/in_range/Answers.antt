@@ -30,7 +30,8 @@ not_below (negsuc n) t = sym (le-leb (suc n) 32768 (within (ltb-false 32767 n t)
     within h = omega arith
 
 pub returns-then-z-ltminus32768 : goal.returns-then-z-ltminus32768
-returns-then-z-ltminus32768 c = below c.args.z (ap (λ (z : ℤ). lt_z z (negsuc 32767)) (sym (to_z-of_z c.ranges.z)) ∙ c.if-z-ltminus32768.true)
+returns-then-z-ltminus32768 c =
+    below c.args.z (ap (λ (z : ℤ). lt_z z (negsuc 32767)) (sym (to_z-of_z c.ranges.z)) ∙ c.if-z-ltminus32768.true)
 
 pub returns : goal.returns
 returns c =

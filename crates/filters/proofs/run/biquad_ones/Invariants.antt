@@ -1,14 +1,12 @@
 -- `filters::run::biquad_ones` meets its contract: after i turns the first i samples are passed, and the filter is in range. Assumes
 -- nothing.
 use Prim.Native.Nat.{◌-◌, ◌<◌}
-use native.Mathlib.Omega.{arith}
 use lib.Dec.{T}
 use lib.ListN.{length}
-use borrow.Author.Rules.{rules}
 use Rattle.filters.specs.Range.{biquad_in_range}
 use Rattle.filters.specs.Filter.{biquad_value}
 use Rattle.filters.specs.Inner.{biquad_next}
-use Rattle.filters.proofs.Runs.{Done, start, turn, finish}
+use Rattle.filters.proofs.Runs.{Done}
 use Rattle.filters.proofs.run.biquad_ones.Given as goal
 
 abbrev pub invariant-loop-i : goal.invariant-loop-i

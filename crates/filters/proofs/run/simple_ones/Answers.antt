@@ -1,6 +1,5 @@
 -- `filters::run::simple_ones` meets its contract: after i turns the first i samples are passed, and the filter is in range. Assumes
 -- nothing.
-use Prim.Native.Nat.{◌-◌}
 use native.Mathlib.Omega.{arith}
 use Rattle.filters.specs.Filter.{simple_value}
 use Rattle.filters.specs.Inner.{simple_next}
@@ -11,8 +10,7 @@ pub loop-i-preserved : goal.loop-i-preserved
 loop-i-preserved c =
     let l = c.loop-i in
     let a = c.args in
-    let r = c.simple_at-f in
-    (
+    let r = c.simple_at-f in (
       turn simple_value simple_next a.first a.samples.now l.samples l.f l.channel l.i _ r.result
           (omega (arith, l.invariant.0.filling.same, c.loop-i-test.true)) l.invariant.0 r.ensures.samples r.ensures.filter,
       r.ensures.range,

@@ -1,159 +1,130 @@
 -- `filters::step::biquad_sum` meets its contract: five products with their bounds, summed in turn. Assumes nothing.
 use Prim.Native.Nat.{ℕ, ◌+◌}
+use lib.Dec.{T}
 use lib.IntN.{ℤ, pos, ◌+ℤ◌, ◌*ℤ◌}
 use lib.ListN.{get_or}
-use mir.Syntax.{w64}
+use mir.Syntax.{w32, w64}
 use mir.Val.{of_z, to_z}
 use Rattle.numbers.specs.Within.{Is}
 use Rattle.numbers.proofs.Bounds.{is_add, is_read, is_fits, is_arg}
+use Rattle.filters.specs.declared.state.BiquadFilter.{BiquadFilter}
+use Rattle.filters.specs.Range.{biquad_in_range}
 use Rattle.filters.specs.Filter.{biquad_sum}
 use Rattle.filters.proofs.Ranges.{ranged, handed, product_of, all_at}
 use Rattle.filters.proofs.Passes.{Biquad, biquad_parts}
-use Rattle.filters.proofs.step.biquad_sum.Tie as tie
 use Rattle.filters.proofs.step.biquad_sum.Goals as goal
-
--- what is multiplied, with its bound
-parts : (c : tie.Start) → Biquad c.args.t1
-parts c = biquad_parts c.args.t1 c.requires.t
-
-module _ (c : tie.Start) where
-  b : (i : ℕ) → Is 32768 (get_or c.args.t1.b i (pos 0)) (get_or c.args.t1.b i (pos 0))
-  b i = ranged (get_or c.args.t1.b i (pos 0)) (all_at c.args.t1.b i (parts c).b)
-
-  a : (i : ℕ) → Is 32768 (get_or c.args.t1.a i (pos 0)) (get_or c.args.t1.a i (pos 0))
-  a i = ranged (get_or c.args.t1.a i (pos 0)) (all_at c.args.t1.a i (parts c).a)
-
-  x : (i : ℕ) → Is 32768 (get_or c.args.t1.x i (pos 0)) (get_or c.args.t1.x i (pos 0))
-  x i = ranged (get_or c.args.t1.x i (pos 0)) (all_at c.args.t1.x i (parts c).x)
-
-  y : (i : ℕ) → Is 32768 (get_or c.args.t1.y i (pos 0)) (get_or c.args.t1.y i (pos 0))
-  y i = ranged (get_or c.args.t1.y i (pos 0)) (all_at c.args.t1.y i (parts c).y)
-
-x0 : (c : tie.After-kept) → Is 32768 c.args.x c.kept.result
-x0 c = is_arg c.ranges.x c.kept.ensures
-
--- where each product began
-abbrev start₁ : tie.After-term → tie.Start
-start₁ c = c.before.before.before
-
-abbrev start₂ : tie.After-term-2 → tie.Start
-start₂ c = start₁ c.before.before.before
-
-abbrev start₃ : tie.After-term-3 → tie.Start
-start₃ c = start₂ c.before.before.before
-
-abbrev start₄ : tie.After-term-4 → tie.Start
-start₄ c = start₃ c.before.before.before
-
-abbrev start₅ : tie.After-term-5 → tie.Start
-start₅ c = start₄ c.before.before.before
-
--- the definition's sum so far
-abbrev so-far₁ : tie.Start → ℤ
-so-far₁ c = get_or c.args.t1.b 0 (pos 0) *ℤ c.args.x
-
-abbrev so-far₂ : tie.Start → ℤ
-so-far₂ c = so-far₁ c +ℤ get_or c.args.t1.b 1 (pos 0) *ℤ get_or c.args.t1.x c.args.channel (pos 0)
-
-abbrev so-far₃ : tie.Start → ℤ
-so-far₃ c = so-far₂ c +ℤ get_or c.args.t1.b 2 (pos 0) *ℤ get_or c.args.t1.x (c.args.channel + 2) (pos 0)
-
-abbrev so-far₄ : tie.Start → ℤ
-so-far₄ c = so-far₃ c +ℤ get_or c.args.t1.a 0 (pos 0) *ℤ get_or c.args.t1.y c.args.channel (pos 0)
-
-abbrev so-far₅ : tie.Start → ℤ
-so-far₅ c = so-far₄ c +ℤ get_or c.args.t1.a 1 (pos 0) *ℤ get_or c.args.t1.y (c.args.channel + 2) (pos 0)
 
 -- a local of 64 bits as the code reads it
 abbrev R : ℤ → ℤ
 R z = to_z w64 (of_z w64 z)
 
--- the code's sum so far
-abbrev code₂ : tie.After-term-2 → ℤ
-code₂ c = R c.before.before.before.term.result +ℤ R c.term2.result
+-- what the code multiplies, of 32 bits each
+abbrev Times : ℤ → ℤ → ℤ → Type 0
+Times x y r = Is 1073741824 (to_z w32 (of_z w32 x) *ℤ to_z w32 (of_z w32 y)) r
 
-abbrev code₃ : tie.After-term-3 → ℤ
-code₃ c = R (code₂ c.before.before.before) +ℤ R c.term3.result
+-- what is multiplied, with its bound
+module _ (f : BiquadFilter) (t : T (biquad_in_range f)) (i : ℕ) where
+  parts : Biquad f
+  parts = biquad_parts f t
 
-abbrev code₄ : tie.After-term-4 → ℤ
-code₄ c = R (code₃ c.before.before.before) +ℤ R c.term4.result
+  b : Is 32768 (get_or f.b i (pos 0)) (get_or f.b i (pos 0))
+  b = ranged (get_or f.b i (pos 0)) (all_at f.b i parts.b)
 
-abbrev code₅ : tie.After-term-5 → ℤ
-code₅ c = R (code₄ c.before.before.before) +ℤ R c.term5.result
+  a : Is 32768 (get_or f.a i (pos 0)) (get_or f.a i (pos 0))
+  a = ranged (get_or f.a i (pos 0)) (all_at f.a i parts.a)
 
-sum₁ : (c : tie.After-term) → Is 1073741824 (so-far₁ (start₁ c)) c.term.result
-sum₁ c = product_of (b (start₁ c) 0) (x0 c.before) c.term.ensures
+  x : Is 32768 (get_or f.x i (pos 0)) (get_or f.x i (pos 0))
+  x = ranged (get_or f.x i (pos 0)) (all_at f.x i parts.x)
 
-sum₂ : (c : tie.After-term-2) → Is 2147483648 (so-far₂ (start₂ c)) (code₂ c)
-sum₂ c =
-    let s = start₂ c in
-    is_add (is_read w64 (sum₁ c.before.before.before) tt)
-    (is_read w64 (product_of (b s 1) (x s s.args.channel) c.term-2.ensures) tt)
+  y : Is 32768 (get_or f.y i (pos 0)) (get_or f.y i (pos 0))
+  y = ranged (get_or f.y i (pos 0)) (all_at f.y i parts.y)
 
-sum₃ : (c : tie.After-term-3) → Is 3221225472 (so-far₃ (start₃ c)) (code₃ c)
-sum₃ c =
-    let s = start₃ c in
-    is_add (is_read w64 (sum₂ c.before.before.before) tt)
-    (is_read w64 (product_of (b s 2) (x s (s.args.channel + 2)) c.term-3.ensures) tt)
+-- the sums: of the sample x0 the code has k, and of the products p₁ to p₅
+module _ (channel : ℕ) (f : BiquadFilter) (t : T (biquad_in_range f)) {x0 k : ℤ} (h : Is 32768 x0 k) where
+  -- the definition's sum so far
+  abbrev so-far₁ : ℤ
+  so-far₁ = get_or f.b 0 (pos 0) *ℤ x0
 
-sum₄ : (c : tie.After-term-4) → Is 4294967296 (so-far₄ (start₄ c)) (code₄ c)
-sum₄ c =
-    let s = start₄ c in
-    is_add (is_read w64 (sum₃ c.before.before.before) tt)
-    (is_read w64 (product_of (a s 0) (y s s.args.channel) c.term-4.ensures) tt)
+  abbrev so-far₂ : ℤ
+  so-far₂ = so-far₁ +ℤ get_or f.b 1 (pos 0) *ℤ get_or f.x channel (pos 0)
 
-sum₅ : (c : tie.After-term-5) → Is 5368709120 (so-far₅ (start₅ c)) (code₅ c)
-sum₅ c =
-    let s = start₅ c in
-    is_add (is_read w64 (sum₄ c.before.before.before) tt)
-    (is_read w64 (product_of (a s 1) (y s (s.args.channel + 2)) c.term-5.ensures) tt)
+  abbrev so-far₃ : ℤ
+  so-far₃ = so-far₂ +ℤ get_or f.b 2 (pos 0) *ℤ get_or f.x (channel + 2) (pos 0)
 
-pub term-requires : goal.term-requires
-term-requires c = record {
-      t = handed (b c.before.before 0);
-      t_2 = handed (x0 c);
-    }
+  abbrev so-far₄ : ℤ
+  so-far₄ = so-far₃ +ℤ get_or f.a 0 (pos 0) *ℤ get_or f.y channel (pos 0)
 
-pub term-requires-2 : goal.term-requires-2
-term-requires-2 c =
-    let s = start₁ c.before.before in record {
-      t = handed (b s 1);
-      t_2 = handed (x s s.args.channel);
-    }
+  abbrev so-far₅ : ℤ
+  so-far₅ = so-far₄ +ℤ get_or f.a 1 (pos 0) *ℤ get_or f.y (channel + 2) (pos 0)
+
+  module _ {p₁ : ℤ} (h₁ : Times (get_or f.b 0 (pos 0)) k p₁) where
+    sum₁ : Is 1073741824 so-far₁ p₁
+    sum₁ = product_of (b f t 0) h h₁
+
+    module _ {p₂ : ℤ} (h₂ : Times (get_or f.b 1 (pos 0)) (get_or f.x channel (pos 0)) p₂) where
+      sum₂ : Is 2147483648 so-far₂ (R p₁ +ℤ R p₂)
+      sum₂ = is_add (is_read w64 sum₁ tt) (is_read w64 (product_of (b f t 1) (x f t channel) h₂) tt)
+
+      module _ {p₃ : ℤ} (h₃ : Times (get_or f.b 2 (pos 0)) (get_or f.x (channel + 2) (pos 0)) p₃) where
+        sum₃ : Is 3221225472 so-far₃ (R (R p₁ +ℤ R p₂) +ℤ R p₃)
+        sum₃ = is_add (is_read w64 sum₂ tt) (is_read w64 (product_of (b f t 2) (x f t (channel + 2)) h₃) tt)
+
+        module _ {p₄ : ℤ} (h₄ : Times (get_or f.a 0 (pos 0)) (get_or f.y channel (pos 0)) p₄) where
+          sum₄ : Is 4294967296 so-far₄ (R (R (R p₁ +ℤ R p₂) +ℤ R p₃) +ℤ R p₄)
+          sum₄ = is_add (is_read w64 sum₃ tt) (is_read w64 (product_of (a f t 0) (y f t channel) h₄) tt)
+
+          module _ {p₅ : ℤ} (h₅ : Times (get_or f.a 1 (pos 0)) (get_or f.y (channel + 2) (pos 0)) p₅) where
+            sum₅ : Is 5368709120 so-far₅ (R (R (R (R p₁ +ℤ R p₂) +ℤ R p₃) +ℤ R p₄) +ℤ R p₅)
+            sum₅ = is_add (is_read w64 sum₄ tt) (is_read w64 (product_of (a f t 1) (y f t (channel + 2)) h₅) tt)
+
+pub term-requires-clause-t_2 : goal.term-requires-clause-t_2
+term-requires-clause-t_2 c = handed (is_arg c.ranges.x c.kept.ensures)
+
+pub term-requires-2-clause-t_2 : goal.term-requires-2-clause-t_2
+term-requires-2-clause-t_2 c = handed (x c.args.f c.requires.t c.args.channel)
 
 pub overflow_add-forward : goal.overflow_add-forward
-overflow_add-forward c = is_fits w64 (sum₂ c) tt
+overflow_add-forward c =
+    is_fits w64 (sum₂ c.args.channel c.args.f c.requires.t (is_arg c.ranges.x c.kept.ensures) c.term.ensures c.term-2.ensures) tt
 
-pub term-requires-3 : goal.term-requires-3
-term-requires-3 c =
-    let s = start₂ c.before.before in record {
-      t = handed (b s 2);
-      t_2 = handed (x s (s.args.channel + 2));
-    }
+pub term-requires-3-clause-t : goal.term-requires-3-clause-t
+term-requires-3-clause-t c = handed (b c.args.f c.requires.t 2)
+
+pub term-requires-3-clause-t_2 : goal.term-requires-3-clause-t_2
+term-requires-3-clause-t_2 c = handed (x c.args.f c.requires.t (c.args.channel + 2))
 
 pub overflow_add-forward-2 : goal.overflow_add-forward-2
-overflow_add-forward-2 c = is_fits w64 (sum₃ c) tt
+overflow_add-forward-2 c =
+    is_fits w64
+    (sum₃ c.args.channel c.args.f c.requires.t (is_arg c.ranges.x c.kept.ensures) c.term.ensures c.term-2.ensures c.term-3.ensures) tt
 
-pub term-requires-4 : goal.term-requires-4
-term-requires-4 c =
-    let s = start₃ c.before.before in record {
-      t = handed (a s 0);
-      t_2 = handed (y s s.args.channel);
-    }
+pub term-requires-4-clause-t : goal.term-requires-4-clause-t
+term-requires-4-clause-t c = handed (a c.args.f c.requires.t 0)
+
+pub term-requires-4-clause-t_2 : goal.term-requires-4-clause-t_2
+term-requires-4-clause-t_2 c = handed (y c.args.f c.requires.t c.args.channel)
 
 pub overflow_add-result : goal.overflow_add-result
-overflow_add-result c = is_fits w64 (sum₄ c) tt
+overflow_add-result c =
+    is_fits w64
+    (sum₄ c.args.channel c.args.f c.requires.t (is_arg c.ranges.x c.kept.ensures) c.term.ensures c.term-2.ensures c.term-3.ensures
+    c.term-4.ensures) tt
 
-pub term-requires-5 : goal.term-requires-5
-term-requires-5 c =
-    let s = start₄ c.before.before in record {
-      t = handed (a s 1);
-      t_2 = handed (y s (s.args.channel + 2));
-    }
+pub term-requires-5-clause-t : goal.term-requires-5-clause-t
+term-requires-5-clause-t c = handed (a c.args.f c.requires.t 1)
+
+pub term-requires-5-clause-t_2 : goal.term-requires-5-clause-t_2
+term-requires-5-clause-t_2 c = handed (y c.args.f c.requires.t (c.args.channel + 2))
 
 pub overflow_add-result-2 : goal.overflow_add-result-2
-overflow_add-result-2 c = is_fits w64 (sum₅ c) tt
+overflow_add-result-2 c =
+    is_fits w64
+    (sum₅ c.args.channel c.args.f c.requires.t (is_arg c.ranges.x c.kept.ensures) c.term.ensures c.term-2.ensures c.term-3.ensures
+    c.term-4.ensures c.term-5.ensures) tt
 
 pub returns : goal.returns
 unfolding biquad_sum
-returns c = is_read w64 (sum₅ c) tt
+returns c =
+    is_read w64
+    (sum₅ c.args.channel c.args.f c.requires.t (is_arg c.ranges.x c.kept.ensures) c.term.ensures c.term-2.ensures c.term-3.ensures
+    c.term-4.ensures c.term-5.ensures) tt

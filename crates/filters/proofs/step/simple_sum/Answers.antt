@@ -1,58 +1,41 @@
 -- `filters::step::simple_sum` meets its contract: two products with their bounds, and their sum. Assumes nothing.
-use lib.IntN.{pos, ◌+ℤ◌, ◌*ℤ◌}
+use Prim.Native.Nat.{ℕ}
+use lib.Dec.{T}
+use lib.IntN.{ℤ, pos, ◌+ℤ◌, ◌*ℤ◌}
 use lib.ListN.{get_or}
-use mir.Syntax.{w64}
+use mir.Syntax.{Width, w32, w64}
 use mir.Val.{of_z, to_z}
 use Rattle.numbers.specs.Within.{Is}
 use Rattle.numbers.proofs.Bounds.{is_add, is_read, is_fits, is_arg}
+use Rattle.filters.specs.declared.state.SimpleFilter.{SimpleFilter}
+use Rattle.filters.specs.Range.{simple_in_range}
 use Rattle.filters.specs.Filter.{simple_sum}
 use Rattle.filters.proofs.Ranges.{ranged, handed, product_of, all_at}
-use Rattle.filters.proofs.Passes.{Simple, simple_parts}
-use Rattle.filters.proofs.step.simple_sum.Tie as tie
+use Rattle.filters.proofs.Passes.{simple_parts}
 use Rattle.filters.proofs.step.simple_sum.Goals as goal
 
--- what is multiplied, with its bound
-parts : (c : tie.Start) → Simple c.args.t1
-parts c = simple_parts c.args.t1 c.requires.t
+-- a local as the code reads it
+abbrev R : Width → ℤ → ℤ
+R w z = to_z w (of_z w z)
 
-b0 : (c : tie.Start) → Is 32768 c.args.t1.b0 c.args.t1.b0
-b0 c = ranged c.args.t1.b0 (parts c).b0
-
-a1 : (c : tie.Start) → Is 32768 c.args.t1.a1 c.args.t1.a1
-a1 c = ranged c.args.t1.a1 (parts c).a1
-
-y1 : (c : tie.Start) → Is 32768 (get_or c.args.t1.y1 c.args.channel (pos 0)) (get_or c.args.t1.y1 c.args.channel (pos 0))
-y1 c = ranged (get_or c.args.t1.y1 c.args.channel (pos 0)) (all_at c.args.t1.y1 c.args.channel (parts c).y1)
-
-x : (c : tie.After-kept) → Is 32768 c.args.x c.kept.result
-x c = is_arg c.ranges.x c.kept.ensures
-
-product₁ :
-    (c : tie.After-term) → Is 1073741824 (c.args.t1.b0 *ℤ c.args.x) c.term.result
-product₁ c = product_of (b0 c.before.before.before) (x c.before) c.term.ensures
-
-abbrev start : tie.After-term-2 → tie.Start
-start c = c.before.before.before.before.before.before
-
-product₂ :
-    (c : tie.After-term-2) → Is 1073741824 ((start c).args.t1.a1 *ℤ get_or (start c).args.t1.y1 (start c).args.channel (pos 0))
-    c.term-2.result
-product₂ c = product_of (a1 (start c)) (y1 (start c)) c.term-2.ensures
-
+-- of the sample x the code has k, and of the products p and q
 sum :
-    (c : tie.After-term-2) → Is 2147483648 (simple_sum (start c).args.channel (start c).args.t1 (start c).args.x)
-    (to_z w64 (of_z w64 c.term.result) +ℤ to_z w64 (of_z w64 c.term-2.result))
+    (channel : ℕ) (f : SimpleFilter) {x k p q : ℤ} → T (simple_in_range f) → Is 32768 x k
+    → Is 1073741824 (R w32 f.b0 *ℤ R w32 k) p → Is 1073741824 (R w32 f.a1 *ℤ R w32 (get_or f.y1 channel (pos 0))) q
+    → Is 2147483648 (simple_sum channel f x) (R w64 p +ℤ R w64 q)
 unfolding simple_sum
-sum c = is_add (is_read w64 (product₁ c.before.before.before) tt) (is_read w64 (product₂ c) tt)
+sum channel f t x p q =
+    let parts = simple_parts f t in
+    let y1 = ranged (get_or f.y1 channel (pos 0)) (all_at f.y1 channel parts.y1) in
+    is_add (is_read w64 (product_of (ranged f.b0 parts.b0) x p) tt) (is_read w64 (product_of (ranged f.a1 parts.a1) y1 q) tt)
 
-pub term-requires : goal.term-requires
-term-requires c = record {
-      t = handed (b0 c.before.before);
-      t_2 = handed (x c);
-    }
+pub term-requires-clause-t_2 : goal.term-requires-clause-t_2
+term-requires-clause-t_2 c = handed (is_arg c.ranges.x c.kept.ensures)
 
 pub overflow_add-result : goal.overflow_add-result
-overflow_add-result c = is_fits w64 (sum c) tt
+overflow_add-result c =
+    is_fits w64 (sum c.args.channel c.args.f c.requires.t (is_arg c.ranges.x c.kept.ensures) c.term.ensures c.term-2.ensures) tt
 
 pub returns : goal.returns
-returns c = is_read w64 (sum c) tt
+returns c =
+    is_read w64 (sum c.args.channel c.args.f c.requires.t (is_arg c.ranges.x c.kept.ensures) c.term.ensures c.term-2.ensures) tt
