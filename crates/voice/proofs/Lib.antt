@@ -1,4 +1,3 @@
 pub mod Formed
-pub mod Lengths
 pub mod Range
 pub mod Tidied
