@@ -83,7 +83,8 @@ length_mixed m part l = length_tabulate (λ k. cond (eqb (k / 640) m) (summed (g
 
 module _ (marks : List Bool) (ramp gains : List Float) (frame : List ℤ) where
   ramp_row :
-      (m k : ℕ) → k / 640 ≡ m → either_at (get_or marks m false) (gains_of ramp m) (gains_of gains m) frame k ≡ ramped_at marks ramp gains frame k
+      (m k : ℕ) → k / 640 ≡ m
+      → either_at (get_or marks m false) (gains_of ramp m) (gains_of gains m) frame k ≡ ramped_at marks ramp gains frame k
   ramp_row m k e = λ j. part_of (get_or marks (sym e j) false) (row_is ramp m k e j) (row_is gains m k e j) (k % 160) (sample_at frame k)
 
   abbrev own : ℕ → ℕ → ℤ

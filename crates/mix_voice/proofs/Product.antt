@@ -336,7 +336,8 @@ products g v h k = go g (quick_form g h)
     go (fin s m e) f = by_sample s m e f.0 f.1 v k
 
 -- ---- the shift of the bits less the base
-pub shifted : (b : Bool) (K fl : ℕ) → Cutting b K fl → fl ≤ 2097151 → K < 16777216 → shr_z (pos (1241513984 + K) -ℤ base_by b) 2 ≡ signed b fl
+pub shifted : (b : Bool) (K fl : ℕ) → Cutting b K fl → fl ≤ 2097151 → K < 16777216
+    → shr_z (pos (1241513984 + K) -ℤ base_by b) 2 ≡ signed b fl
 shifted false K fl c f h = ap (λ (z : ℤ). shr_z z 2) (sub_above (1241513984 + K) 0x4AC0_0000 (omega (arith, c.0))) ∙ ap pos half
   where
     half : (1241513984 + K - 0x4AC0_0000) / 2 ≡ fl

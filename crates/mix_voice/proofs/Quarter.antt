@@ -11,7 +11,7 @@ use lib.IntN.{pos, negsuc}
 use lib.Dec.{ltb, lit<}
 use lib.Pow.{pow_pos, pow-add}
 use borrow.Author.Tests.{lt-ltb, ltb-true, ltb-false}
-use lib.Ieee.{Float, fin, binary32, up, down, round, sum, add, sub, to_bits}
+use lib.Ieee.{Float, fin, binary32, round, sum, add, sub, to_bits}
 use lib.Ieee.Digits.{back}
 use lib.Ieee.Fits.{kept-lt, nearest-le}
 use lib.Ieee.Exact.{HasValue, round_exact}

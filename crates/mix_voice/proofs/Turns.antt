@@ -216,7 +216,8 @@ row_is gains m k e = go (eqb (k % 640 / 160) 0) (eqb (k % 640 / 160) 1) (eqb (k 
   where
     go : (x y z : Bool) → eqb (k % 640 / 160) 0 ≡ x → eqb (k % 640 / 160) 1 ≡ y → eqb (k % 640 / 160) 2 ≡ z
         → cond x (get_or gains (m * 4) nan)
-        (cond y (get_or gains (m * 4 + 1) nan) (cond z (get_or gains (m * 4 + 2) nan) (get_or gains (m * 4 + 3) nan))) ≡ get_or gains (k / 160) nan
+        (cond y (get_or gains (m * 4 + 1) nan) (cond z (get_or gains (m * 4 + 2) nan) (get_or gains (m * 4 + 3) nan)))
+        ≡ get_or gains (k / 160) nan
     go true y z p q r = ap (λ (n : ℕ). get_or gains n nan) (at (eqb-true (k % 640 / 160) 0 p))
       where
         at : k % 640 / 160 ≡ 0 → m * 4 ≡ k / 160

@@ -8,6 +8,7 @@
 // gains from -32 to 32, and in a fade between gains from -16 to 16, it is cut by its own sign (`signs`). All else is done as it is
 // defined (`slow`). The sums and the gains of one mix are in `sums`.
 #![tactic(auto)]
+
 pub mod cut;
 pub mod fade;
 pub mod quick;

@@ -1,7 +1,7 @@
 -- `mix_voice::quick::quick_mix` meets its contract: after i turns the first i samples of each channel of the mix have their sums. Assumes
 -- nothing.
 use mathlib.Core.Bool.{false}
-use Prim.Native.Nat.{◌+◌, ◌-◌, ◌*◌}
+use Prim.Native.Nat.{◌+◌, ◌*◌}
 use native.Mathlib.Omega.{arith}
 use lib.IntN.{pos}
 use lib.ListN.{get_or}

@@ -1,19 +1,9 @@
 -- `mix_voice::slow::slow_mix` meets its contract: after i turns the first i samples of each channel of the mix have their sums. Assumes
 -- nothing.
-use mathlib.Core.Path.{◌∙◌}
-use Prim.Native.Nat.{◌+◌, ◌-◌, ◌*◌, ◌≤◌}
-use native.Mathlib.Omega.{arith}
-use lib.IntN.{pos}
-use lib.ListN.{get_or}
-use mir.Syntax.{w16, w32}
-use mir.Val.{SFits}
-use mir.Facts.{to_z-of_z}
-use borrow.Author.Rules.{rules}
+use Prim.Native.Nat.{◌-◌, ◌*◌, ◌≤◌}
 use Rattle.numbers.specs.Sizes.{FRAME_SAMPLES}
-use Rattle.numbers.proofs.Bounds.{result_read}
-use Rattle.mix_voice.specs.Mixed.{four, either_at}
-use Rattle.mix_voice.proofs.Turns.{Been, in_mix, been_none, mixed_is}
-use Rattle.mix_voice.proofs.Fades.{fade_turn}
+use Rattle.mix_voice.specs.Mixed.{either_at}
+use Rattle.mix_voice.proofs.Turns.{Been, in_mix}
 use Rattle.mix_voice.proofs.slow.slow_mix.Given as goal
 
 abbrev pub invariant-loop-i : goal.invariant-loop-i
