@@ -3,6 +3,7 @@
 // too short; else it fills the first places of the output and gives the last two samples as the new history. Frames of eight bytes are
 // handed on as parts of the bytes, and the part of the output that a frame fills is lent to it.
 #![tactic(auto)]
+
 ghost use Rattle.std.specs.Prelude.{◌≡◌, ◌++◌, min, ◌*◌, ◌/◌, ◌%◌, ◌^◌, ◌≤◌, ◌<◌, length, take, drop, get_or, pos};
 ghost use Rattle.numbers.specs.Within.{Is};
 ghost use Rattle.adpcm.specs.Code.{code, first_nibble, second_nibble, nibbles, codes_by, frame_codes, frames_of, signed_nibble};

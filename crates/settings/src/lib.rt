@@ -3,6 +3,7 @@
 // lengths are required; lengthening also requires that no more is left of the entry being played than its length. The step of the filters
 // is `filter_settings`. `config` takes the steps in their order; the entries are those of `entries` and `queueing`.
 #![tactic(auto)]
+
 pub mod dirty;
 pub mod gains;
 pub mod steps;

@@ -1,6 +1,7 @@
 // Of module 6, a voice's status: the 12 bytes that tell the title how far the voice is. `write_status` puts those of a record over the part
 // of a region that it is lent. Nothing is refused; the part must have a status's length.
 #![tactic(auto)]
+
 ghost use Rattle.std.specs.Prelude.{◌≡◌, length};
 ghost use Rattle.fields.specs.Fields.{status, total};
 ghost use Rattle.status.specs.Status.{bit, status_of};

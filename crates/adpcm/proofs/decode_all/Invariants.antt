@@ -1,11 +1,8 @@
 -- `adpcm::decode_all` meets its contract: a turn takes one frame off the front of what is left to decode. Assumes nothing.
-use mathlib.Core.Path.{◌≡◌, refl}
-use Prim.Native.Nat.{◌+◌, ◌-◌}
-use native.Mathlib.Omega.{arith}
-use lib.ListN.{length, take, drop}
-use borrow.Author.Rules.{rules}
-use Rattle.lists.proofs.Splice.{lent_is, lent_long}
-use Rattle.adpcm.proofs.Frames.{Done, start, turn_called, done_length, finish}
+use mathlib.Core.Path.{◌≡◌}
+use Prim.Native.Nat.{◌-◌}
+use lib.ListN.{length}
+use Rattle.adpcm.proofs.Frames.{Done}
 use Rattle.adpcm.proofs.decode_all.Given as goal
 
 abbrev pub invariant-loop-done : goal.invariant-loop-done

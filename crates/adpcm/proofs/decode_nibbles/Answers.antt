@@ -1,7 +1,7 @@
 -- `adpcm::decode_nibbles` meets its contract: after i turns the first i samples stand, and the history is that after i codes. Assumes
 -- nothing.
 use mathlib.Core.Path.{sym, ap, ◌∙◌}
-use Prim.Native.Nat.{ℕ, ◌-◌, ◌<◌}
+use Prim.Native.Nat.{ℕ, ◌<◌}
 use native.Mathlib.Omega.{arith}
 use lib.ListN.{length, take, drop, get_or-map}
 use lib.Seq.{get_or-take}

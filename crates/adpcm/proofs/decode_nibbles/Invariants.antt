@@ -1,19 +1,9 @@
 -- `adpcm::decode_nibbles` meets its contract: after i turns the first i samples stand, and the history is that after i codes. Assumes
 -- nothing.
-use mathlib.Core.Path.{sym, ap, ◌∙◌}
-use Prim.Native.Nat.{ℕ, ◌-◌, ◌<◌}
-use native.Mathlib.Omega.{arith}
-use lib.ListN.{length, take, drop, get_or-map}
-use lib.Seq.{get_or-take}
-use mir.Syntax.{w16}
-use mir.Val.{of_z, to_z, SFits}
-use mir.Facts.{to_z-of_z}
-use borrow.Author.Rules.{rules}
-use Rattle.numbers.proofs.Bounds.{result_read}
-use Rattle.adpcm.specs.Code.{code, nibbles, codes_by, samples_of, history_after}
-use Rattle.adpcm.specs.Adpcm.{sample_of}
-use Rattle.adpcm.proofs.Codes.{codes_by_long, taken_long}
-use Rattle.adpcm.proofs.Runs.{Done, start, turn, finish}
+use Prim.Native.Nat.{◌-◌}
+use lib.ListN.{length, take}
+use Rattle.adpcm.specs.Code.{codes_by}
+use Rattle.adpcm.proofs.Runs.{Done}
 use Rattle.adpcm.proofs.decode_nibbles.Given as goal
 
 abbrev pub invariant-loop-i : goal.invariant-loop-i

@@ -5,12 +5,12 @@ use Rattle.adpcm.proofs.nibble_at.Goals as goal
 
 pub returns-then-i-eq0 : goal.returns-then-i-eq0
 returns-then-i-eq0 c = record {
-      value = c.first_nibble.ensures.value ∙ sym (frame_even c.args.frame.now c.args.i c.requires.frame_len c.requires.i_lt_frame_samples c.if-i-eq0.true);
-      upper_bound = c.first_nibble.ensures.upper_bound;
-    }
+  value = c.first_nibble.ensures.value ∙ sym (frame_even c.args.frame.now c.args.i c.requires.frame_len c.requires.i_lt_frame_samples c.if-i-eq0.true);
+  upper_bound = c.first_nibble.ensures.upper_bound;
+}
 
 pub returns : goal.returns
 returns c = record {
-      value = c.second_nibble.ensures.value ∙ sym (frame_odd c.args.frame.now c.args.i c.requires.frame_len c.requires.i_lt_frame_samples c.if-i-eq0.false);
-      upper_bound = c.second_nibble.ensures.upper_bound;
-    }
+  value = c.second_nibble.ensures.value ∙ sym (frame_odd c.args.frame.now c.args.i c.requires.frame_len c.requires.i_lt_frame_samples c.if-i-eq0.false);
+  upper_bound = c.second_nibble.ensures.upper_bound;
+}

@@ -1,13 +1,11 @@
 -- `settings::steps::coefficients_in` meets its contract: up to `i` the array is the table. Assumes nothing.
 use mathlib.Core.Path.{◌≡◌, sym, ◌∙◌}
 use mathlib.Core.List.{List}
-use Prim.Native.Nat.{◌-◌}
 use native.Mathlib.Omega.{arith}
 use lib.IntN.{ℤ, pos}
 use lib.ListN.{replicate}
 use mir.Syntax.{w16}
 use mir.Val.{to_z, of_z}
-use Rattle.lists.specs.Tabulate.{tabulate}
 use Rattle.lists.proofs.Fill.{filling_more}
 use Rattle.lists.proofs.Tabulate.{length_tabulate, get_d_tabulate}
 use borrow.Author.Rules.{rules}

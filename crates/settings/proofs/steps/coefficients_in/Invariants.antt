@@ -1,18 +1,11 @@
 -- `settings::steps::coefficients_in` meets its contract: up to `i` the array is the table. Assumes nothing.
-use mathlib.Core.Path.{◌≡◌, sym, ◌∙◌}
 use mathlib.Core.List.{List}
 use Prim.Native.Nat.{ℕ, ◌-◌, ◌*◌}
-use native.Mathlib.Omega.{arith}
-use lib.IntN.{ℤ, pos}
-use lib.ListN.{replicate}
-use mir.Syntax.{w16}
-use mir.Val.{to_z, of_z}
+use lib.IntN.{ℤ}
 use Rattle.lists.specs.Tabulate.{tabulate}
-use Rattle.lists.proofs.Fill.{Filling, filling_none, filling_more, filling_all}
-use Rattle.lists.proofs.Tabulate.{length_tabulate, get_d_tabulate}
+use Rattle.lists.proofs.Fill.{Filling}
 use Rattle.numbers.specs.Wrap.{signed16}
 use Rattle.little.specs.Little.{at16}
-use borrow.Author.Rules.{rules}
 use Rattle.settings.proofs.steps.coefficients_in.Given as goal
 
 abbrev pub number : List ℕ → ℕ → ℤ

@@ -1,13 +1,8 @@
 -- `voice::malformed::long_among` meets its contract. The invariant: `found` is of the first `i` entries. Assumes nothing.
-use Prim.Native.Nat.{ℕ, ◌≤◌, ◌<◌, ◌-◌}
-use mathlib.Core.Path.{◌≡◌, refl, sym, ◌∙◌, ap}
-use mathlib.Core.Bool.{◌||◌}
-use lib.ListN.{length, take}
-use native.Mathlib.Omega.{arith}
-use borrow.Author.Rules.{rules}
-use Rattle.lists.proofs.Some.{some_more}
-use Rattle.voice.specs.Blank.{blank_entry}
-use Rattle.voice.specs.Long.{too_long, any_too_long}
+use Prim.Native.Nat.{◌≤◌, ◌-◌}
+use mathlib.Core.Path.{◌≡◌}
+use lib.ListN.{take}
+use Rattle.voice.specs.Long.{any_too_long}
 use Rattle.voice.proofs.malformed.long_among.Given as goal
 
 abbrev pub invariant-loop-i : goal.invariant-loop-i

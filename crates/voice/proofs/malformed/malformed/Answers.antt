@@ -36,10 +36,10 @@ pub returns-then-any_too_long : goal.returns-then-any_too_long
 unfolding malformed
 returns-then-any_too_long c =
     let n : Counted c.args.lane c.args.v = record {
-          queued = le-ltb _ _ c.if-v-gt-LIMIT.false;
-          remaining = le-ltb _ _ c.if-v.false;
-          decoded = sym c.over.ensures ∙ c.if-over.false;
-        } in
+      queued = le-ltb _ _ c.if-v-gt-LIMIT.false;
+      remaining = le-ltb _ _ c.if-v.false;
+      decoded = sym c.over.ensures ∙ c.if-over.false;
+    } in
     sym (or_no _ n.queued ∙ or_no _ n.remaining ∙ or_no _ n.decoded
     ∙ or_yes _ (sym c.any_too_long.ensures ∙ c.if-any_too_long.true))
 
@@ -47,10 +47,10 @@ pub returns-then-not-is_rate : goal.returns-then-not-is_rate
 unfolding malformed
 returns-then-not-is_rate c =
     let n : Counted c.args.lane c.args.v = record {
-          queued = le-ltb _ _ c.if-v-gt-LIMIT.false;
-          remaining = le-ltb _ _ c.if-v.false;
-          decoded = sym c.over.ensures ∙ c.if-over.false;
-        } in
+      queued = le-ltb _ _ c.if-v-gt-LIMIT.false;
+      remaining = le-ltb _ _ c.if-v.false;
+      decoded = sym c.over.ensures ∙ c.if-over.false;
+    } in
     sym
     (or_no _ n.queued ∙ or_no _ n.remaining ∙ or_no _ n.decoded ∙ or_no _ (sym c.any_too_long.ensures ∙ c.if-any_too_long.false)
     ∙ or_yes _ (ap not (sym c.is_rate.ensures) ∙ c.if-not-is_rate.true-raw))
@@ -59,10 +59,10 @@ pub returns-then-not-is_fraction : goal.returns-then-not-is_fraction
 unfolding malformed
 returns-then-not-is_fraction c =
     let n : Counted c.args.lane c.args.v = record {
-          queued = le-ltb _ _ c.if-v-gt-LIMIT.false;
-          remaining = le-ltb _ _ c.if-v.false;
-          decoded = sym c.over.ensures ∙ c.if-over.false;
-        } in
+      queued = le-ltb _ _ c.if-v-gt-LIMIT.false;
+      remaining = le-ltb _ _ c.if-v.false;
+      decoded = sym c.over.ensures ∙ c.if-over.false;
+    } in
     sym
     (or_no _ n.queued ∙ or_no _ n.remaining ∙ or_no _ n.decoded ∙ or_no _ (sym c.any_too_long.ensures ∙ c.if-any_too_long.false)
     ∙ or_no _ (ap not (sym c.is_rate.ensures) ∙ c.if-not-is_rate.false-raw)
@@ -72,10 +72,10 @@ pub returns : goal.returns
 unfolding malformed
 returns c =
     let n : Counted c.args.lane c.args.v = record {
-          queued = le-ltb _ _ c.if-v-gt-LIMIT.false;
-          remaining = le-ltb _ _ c.if-v.false;
-          decoded = sym c.over.ensures ∙ c.if-over.false;
-        } in
+      queued = le-ltb _ _ c.if-v-gt-LIMIT.false;
+      remaining = le-ltb _ _ c.if-v.false;
+      decoded = sym c.over.ensures ∙ c.if-over.false;
+    } in
     ap not c.filters_in_range.ensures
     ∙ sym
     (or_no _ n.queued ∙ or_no _ n.remaining ∙ or_no _ n.decoded ∙ or_no _ (sym c.any_too_long.ensures ∙ c.if-any_too_long.false)

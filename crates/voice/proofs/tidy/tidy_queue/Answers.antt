@@ -1,12 +1,11 @@
 -- `voice::tidy::tidy_queue` meets its contract: the loop fills a queue of blank entries from the front, as far as entries are queued.
 -- Assumes nothing.
-use Prim.Native.Nat.{ℕ, ◌-◌, ◌≤◌, ◌<◌}
+use Prim.Native.Nat.{ℕ, ◌≤◌, ◌<◌}
 use mathlib.Core.List.{List}
-use mathlib.Core.Logic.{⊎_elim}
 use mathlib.Core.Path.{sym, ◌∙◌, ap}
 use lib.ListN.{replicate, length-replicate}
 use native.Mathlib.Omega.{arith}
-use borrow.Author.Tests.{ltb-true, ltb-false}
+use borrow.Author.Tests.{ltb-true}
 use Rattle.lists.proofs.Fill.{filling_more}
 use Rattle.voice.specs.declared.record.Entry.{Entry}
 use Rattle.voice.specs.Blank.{places, blank_entry}
@@ -40,8 +39,8 @@ returns c =
     let l = c.loop-i in
     let v = c.args.v in
     let past : (k : ℕ) → l.i ≤ k → k < places → v.queued ≤ k =
-        elim c.loop-i-test.branch [
-          then-loop-i-test+else-i-n w ↦ far_queued v.queued l.i w.if-i-n.false
-          | else-loop-i-test w ↦ far_full v.queued l.i w.loop-i-test.false
-        ] in
+    elim c.loop-i-test.branch [
+      | then-loop-i-test+else-i-n w ↦ far_queued v.queued l.i w.if-i-n.false
+      | else-loop-i-test w ↦ far_full v.queued l.i w.loop-i-test.false
+    ] in
     ap (λ (q : List Entry). set_voice_queue q v) (rest_blank v.queued v.queue l.q l.i past l.invariant)

@@ -1,5 +1,5 @@
 -- `voice::tidy::tidy_ramp` meets its contract: the loop fills the ramps from the front. Assumes nothing.
-use Rattle.std.proofs.Common.{◌≡◌, ℕ, ◌<◌, ◌/◌, false, List, Float, length, get_or, sym, ap, ◌∙◌, arith, rules}
+use Rattle.std.proofs.Common.{◌≡◌, ◌<◌, ◌/◌, false, List, Float, length, get_or, sym, ap, ◌∙◌, arith, rules}
 use lib.Ieee.{nan}
 use Rattle.lists.proofs.Fill.{filling_more, filling_next, filling_all}
 use Rattle.lists.proofs.Walk.{get_d_any}
