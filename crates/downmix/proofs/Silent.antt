@@ -5,7 +5,7 @@ use mathlib.Core.List.{List}
 use Prim.Native.Nat.{ℕ, ◌*◌, ◌^◌, ◌≤◌, ◌<◌}
 use native.Mathlib.Omega.{arith}
 use lib.Dec.{lit<}
-use lib.IntN.{ℤ, pos, negsuc, nat_abs, ◌+ℤ◌, +ℤ_idr}
+use lib.IntN.{ℤ, pos, negsuc, nat_abs, +ℤ_idr}
 use lib.ListN.{length, get_or}
 use lib.Signed.{mag, lt_z}
 use borrow.Author.Tests.{le-ltb}

@@ -2,6 +2,7 @@
 // which of the three mixes it is. Each of the 320 values is rounded step by step in f32 and clamped to 16 bits as the mix's own part, and
 // the sum with the frame's value is clamped again. Nothing is refused: the lengths are required, and the caller makes both.
 #![tactic(auto)]
+
 ghost use Rattle.std.specs.Prelude.{◌≡◌, ◌+◌, ◌*◌, ◌<◌, length};
 ghost use Rattle.numbers.specs.Sizes.{FRAME_SAMPLES, FRAME, MIX};
 ghost use Rattle.downmix.specs.Downmix.{at_volume, part_of, mono_part, stereo_part, added, part_at, mixed_in, downmixed};

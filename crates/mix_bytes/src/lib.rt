@@ -2,6 +2,7 @@
 // its aux bus is on, else from the mixes given; `send` writes a mix at its place where the bus is on; `put_frame` writes the final samples.
 // Nothing is refused: that the places lie in the region is required, which the mixer's call knows from an accepted layout.
 #![tactic(auto)]
+
 ghost use Rattle.std.specs.Prelude.{◌≡◌, cond, ◌+◌, ◌≤◌, length};
 ghost use Rattle.lists.specs.Splice.{splice};
 ghost use Rattle.numbers.specs.Sizes.{FRAME, MIX};

@@ -5,4 +5,5 @@
 // heard and added in turn and the frame goes to the other region (`mixer_frame`, over `mix_bytes` and `downmix`), and the dirty word is
 // cleared.
 #![tactic(auto)]
+
 pub mod tick;

@@ -2,6 +2,7 @@
 // the volumes' bits as words; aux 0, aux 1 and mono, 1 for on; a zero. The layout has seven offsets as words, in document 01's order, and
 // the frame 320 halves. Nothing is refused: each function asks for its bytes.
 #![tactic(auto)]
+
 ghost use Rattle.std.specs.Prelude.{◌+◌, ◌≤◌, length};
 
 use layout::Layout;

@@ -3,6 +3,7 @@
 // added in turn to silence. `write_out` puts the new mixes of the aux buses that are on, and the final samples, into the other region.
 // Nothing is refused: that the places lie in the regions is required, which the mixer's call knows from an accepted layout.
 #![tactic(auto)]
+
 ghost use Rattle.std.specs.Prelude.{◌≡◌, ◌+◌, ◌≤◌, length};
 ghost use Rattle.numbers.specs.Sizes.{FRAME, MIXES};
 ghost use Rattle.mix_bytes.specs.Sizes.{final_bytes, intermediate_bytes};

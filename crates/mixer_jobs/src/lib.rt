@@ -14,6 +14,7 @@
 //  20  the frame
 // 660  a sum over every byte of region 0, and one of region 1, as words
 #![tactic(auto)]
+
 ghost use Rattle.std.specs.Prelude.{◌≡◌, ◌+◌, ◌≤◌, length};
 
 use little::read32;

@@ -3,6 +3,7 @@
 // `clear_dirty` then clears that word in the region. Nothing is refused: the lengths are required, which the mixer's call knows from an
 // accepted layout.
 #![tactic(auto)]
+
 pub mod configuration;
 
 ghost use Rattle.std.specs.Prelude.{◌≡◌};

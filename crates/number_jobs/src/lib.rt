@@ -19,6 +19,7 @@
 // 15  the sample at the fraction c between the samples a and b
 // Any other kind gives 0.
 #![tactic(auto)]
+
 use numbers::casts;
 use numbers::whole::{to_bits16, to_bits32, to_signed16, to_signed32};
 use replaying::{bits32, bits64, double};

@@ -1,6 +1,7 @@
 // Test only: what the programs that replay the oracle's answers share. Floats go in and out by their bits, samples by their bytes. Nothing
 // is refused: each function asks for the room that it fills.
 #![tactic(auto)]
+
 ghost use Rattle.std.specs.Prelude.{◌+◌, ◌*◌, ◌≤◌, ◌<◌, length};
 
 // The float of 32 bits: those above an infinity's, with the sign's bit dropped, are not a number.
