@@ -10,7 +10,7 @@ use std::thread;
 use cases::Random;
 use cases::configuring::{ANSWER, FLAGS, Job, RECORD, at_seven, not_numbers, voice_of};
 
-const PROGRAM: &str = concat!(env!("CARGO_MANIFEST_DIR"), "/../../target/bin/run_voice");
+const PROGRAM: &str = concat!(env!("CARGO_MANIFEST_DIR"), "/../../crates/run_voice/out/run_voice");
 /// every number that a job can be answered by; each must be met.
 const NUMBERS: [u8; 4] = [0, 7, 20, 21];
 /// how many jobs are handed over together. the program works on one batch

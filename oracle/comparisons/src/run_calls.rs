@@ -12,7 +12,7 @@ use zakuro_core::services::dsp_voices::{ProbeVoice, VOICES};
 
 use crate::same;
 
-const PROGRAM: &str = concat!(env!("CARGO_MANIFEST_DIR"), "/../../target/bin/run_calls");
+const PROGRAM: &str = concat!(env!("CARGO_MANIFEST_DIR"), "/../../crates/run_calls/out/run_calls");
 
 /// the program at work.
 pub struct Port {
