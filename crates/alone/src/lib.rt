@@ -1,8 +1,7 @@
 // The call for one voice alone, by its number. `tick_voice` is lent and handed what the call for all voices is, for any values and lengths.
 // It refuses as a whole with the lowest of 1 to 7 and 10, and then writes nothing: 7 for any voice's record, 10 for a number over 23. Else
 // it chooses the region to be read, sets the mixes to 0 and gives that voice its turn: the mixes then hold what it adds. A voice that is
-// refused, by 20 or 21, keeps what is its own, adds nothing, and is the list that the call gives back. What is another voice's stays. That
-// the function meets its contract is written by tools/walks.
+// refused, by 20 or 21, keeps what is its own, adds nothing, and is the list that the call gives back. What is another voice's stays.
 #![tactic(auto)]
 ghost use Rattle.calls.specs.Lent.{lent};
 ghost use Rattle.alone.specs.TickVoice.{Ensured};

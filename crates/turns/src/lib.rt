@@ -1,6 +1,6 @@
 // A voice's turn over the lent slice of records, and the test of the records for number 7: what both calls for voices do there. Each record
 // is taken out, handed by value to `voice_turn` or `calls`, and put back; all else is theirs. Both functions rely on what the calls have
-// tested. That they meet their contracts is written by tools/walks.
+// tested.
 #![tactic(auto)]
 ghost use Rattle.std.specs.Prelude.{◌≡◌, ◌<◌, ◌≤◌, length, set, get_or};
 ghost use Rattle.lists.specs.Some.{some};

@@ -1,7 +1,7 @@
 // The call for all voices. `tick` is lent the records, the two regions, the window, the lanes and the mixes, for any values and lengths,
 // and is handed the layout and the window's base. It refuses as a whole with the lowest of 1 to 7, and then writes nothing. Else it chooses
 // the region to be read, sets the mixes to 0 and gives each voice its turn; a voice that is refused, by 20 or 21, keeps what is its own,
-// adds nothing and goes into the list that the call gives back. That these functions meet their contracts is written by tools/walks.
+// adds nothing and goes into the list that the call gives back.
 #![tactic(auto)]
 ghost use Rattle.std.specs.Prelude.{◌≡◌, ℕ, ◌<◌, length};
 ghost use Rattle.stems.specs.Memory.{VOICES, lane_length};
