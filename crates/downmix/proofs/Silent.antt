@@ -89,4 +89,5 @@ pub silent :
 unfolding mixed_in
 silent o v mix frame z long f m =
     tabulated frame (λ k. added (get_or frame k (pos 0)) (part_at o v mix k)) 320 (pos 0) long
-    (λ k h. sym (ap (added (get_or frame k (pos 0))) (part_silent o v mix (zero_reach v z) m k) ∙ added_zero (get_or frame k (pos 0)) (f k)))
+    (λ k h. sym (ap (added (get_or frame k (pos 0))) (part_silent o v mix (zero_reach v z) m k)
+    ∙ added_zero (get_or frame k (pos 0)) (f k)))

@@ -2,6 +2,7 @@
 // offsets of one of them as constants, and a function `offsets` that does nothing and whose contract ties each constant by name to the
 // table in specs/Fields. `flags` tests a bit of a dirty word. No memory is read or written, and nothing is refused.
 #![tactic(auto)]
+
 pub mod config;
 pub mod flags;
 pub mod mixer_config;

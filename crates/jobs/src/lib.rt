@@ -6,6 +6,7 @@
 //   2  a decode listing (listed.rt)
 //   3  a call of the mixer (crate mixer_jobs)
 #![tactic(auto)]
+
 mod decode;
 mod listed;
 mod number;

@@ -136,7 +136,9 @@ module _ (first : ℕ) (l : Layout) where
           let f = filled_each (places_of l) refl r.0 r.1 in
           (r.0, end (place_at l r.0) - 1, r.1, (omega arith, omega arith), omega arith)
 
-      test : EndsPast first l → (inside first (places_of l) ≡ true) ⊎ (inside first (places_of l) ≡ false) → inside first (places_of l) ≡ false
+      test :
+          EndsPast first l → (inside first (places_of l) ≡ true) ⊎ (inside first (places_of l) ≡ false)
+          → inside first (places_of l) ≡ false
       test s (inl t) = let w = inside_each first (places_of l) t s.0 s.2 in absurd (omega (arith, s.3, s.4))
       test s (inr f) = f
 

@@ -2,6 +2,7 @@
 // caller lends, for any values of these, and gives the lowest number that applies, or 0. It reads no memory. A call that goes on with 0
 // knows that each place lies in both regions and that no two share a byte (`Sound`, `accepted`).
 #![tactic(auto)]
+
 ghost use Rattle.std.specs.Prelude.{◌≡◌, ◌≤◌, leb, drop};
 ghost use Rattle.layout.specs.Places.{end, places_of, apart_two, inside, apart_from, apart, layout_number};
 

@@ -3,6 +3,7 @@
 // where bytes are missing or left over that is the 9 of a refusal, alone in its column. `list_read` does it for a program that read into a
 // buffer. The bytes go through `input` to the decoder, and its samples through `table` and `text` into columns.
 #![tactic(auto)]
+
 pub mod input;
 pub mod sizes;
 mod table;

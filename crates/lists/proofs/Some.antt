@@ -41,7 +41,8 @@ module _ {A : Type 0} (test : A → Bool) where
   some_suc [] i d h = absurd (not-suc-le-zero h)
   some_suc (x ∷ xs) zero d h = or_false (test x)
   some_suc (x ∷ xs) (suc i) d h =
-      ap (λ (b : Bool). test x || b) (some_suc xs i d (le_of_suc-le-suc h)) ∙ or_assoc (test x) (some test (take i xs)) (test (get_or xs i d))
+      ap (λ (b : Bool). test x || b) (some_suc xs i d (le_of_suc-le-suc h))
+      ∙ or_assoc (test x) (some test (take i xs)) (test (get_or xs i d))
 
   -- of one element more
   pub some_more :

@@ -29,5 +29,7 @@ module _ {A : Type 0} where
   get_d_any (x ∷ xs) (suc i) d e h = get_d_any xs i d e (le_of_suc-le-suc h)
 
   -- what holds of each element, and of what is read past the end, holds at every index
-  pub everywhere : (P : A → Type 0) (xs : List A) (d : A) → P d → ((k : ℕ) → k < length xs → P (get_or xs k d)) → (k : ℕ) → P (get_or xs k d)
+  pub everywhere :
+      (P : A → Type 0) (xs : List A) (d : A) → P d → ((k : ℕ) → k < length xs → P (get_or xs k d))
+      → (k : ℕ) → P (get_or xs k d)
   everywhere P xs d p h k = ⊎_elim (h k) (λ (l : length xs ≤ k). subst P (sym (get_or-eq_default xs d l)) p) (below_or k (length xs))

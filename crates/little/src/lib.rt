@@ -2,6 +2,7 @@
 // takes bytes and a place and gives the number; writing stores its bytes there and leaves every other byte. Nothing is refused: each
 // function asks that the bytes from the place on lie in the slice, which the caller knows from an accepted layout.
 #![tactic(auto)]
+
 ghost use Rattle.std.specs.Prelude.{◌≡◌, ◌+◌, ◌≤◌, ◌<◌, length};
 ghost use Rattle.lists.specs.Splice.{splice};
 ghost use Rattle.numbers.specs.Wrap.{signed16};

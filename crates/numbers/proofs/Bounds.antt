@@ -82,7 +82,10 @@ is_read w {z} {x} {A} h k = subst (λ (y : ℤ). Is A z y) (sym (to_z-of_z (is_f
 
 -- a parameter or a result as the code reads it
 pub is_param : {w : Width} {z : ℤ} → SFits w z → Is (2 ^ hbits w) z (to_z w (of_z w z))
-is_param {w} {z} h = record { is = to_z-of_z h; abs = subst (λ (y : ℤ). nat_abs y ≤ 2 ^ hbits w) (sym (to_z-of_z h)) (nat_abs-le z h.sfits) }
+is_param {w} {z} h = record {
+  is = to_z-of_z h;
+  abs = subst (λ (y : ℤ). nat_abs y ≤ 2 ^ hbits w) (sym (to_z-of_z h)) (nat_abs-le z h.sfits);
+}
 
 -- a number of the program's own
 pub is_pos : (n : ℕ) → Is n (pos n) (pos n)

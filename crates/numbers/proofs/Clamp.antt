@@ -30,7 +30,9 @@ module _ (w : Width) (v : ℤ) (f : SFits w v) where
   pub above : lt_z (to_z w (of_z w v)) (negsuc 32767) ≡ false → lt_z (pos 32767) (to_z w (of_z w v)) ≡ true → pos 32767 ≡ clamp16 v
   above s t = sym (cond_no (negsuc 32767) _ (low false s) ∙ cond_yes (pos 32767) _ (high true t))
 
-  pub held_fits : lt_z (to_z w (of_z w v)) (negsuc 32767) ≡ false → lt_z (pos 32767) (to_z w (of_z w v)) ≡ false → SFits w16 (to_z w (of_z w v))
+  pub held_fits :
+      lt_z (to_z w (of_z w v)) (negsuc 32767) ≡ false → lt_z (pos 32767) (to_z w (of_z w v)) ≡ false
+      → SFits w16 (to_z w (of_z w v))
   held_fits s t = subst (λ (z : ℤ). SFits w16 z) (sym (to_z-of_z f)) (between v (low false s) (high false t))
 
   pub held :

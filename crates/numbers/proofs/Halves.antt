@@ -27,8 +27,8 @@ summed z l h k =
     ap (λ (x : Float). add binary32 x (of_int binary32 (pos l)))
     (mul_value binary32 (of_int binary32 z) (fin false 1 (pos 16)) (below_0 z) false (nat_abs z) 65536 1 1 (zero-lt-suc 0) (zero-lt-suc 0)
     (int_value binary32 z few) (refl, refl) ∙ ap (λ (s : Bool). round binary32 s (nat_abs z * 65536) 1) (sign (below_0 z)))
-    ∙ add_value binary32 (round binary32 (below_0 z) (nat_abs z * 65536) 1) (of_int binary32 (pos l)) (below_0 z) false (nat_abs z * 65536) l 1
-    (zero-lt-suc 0) (upper (below_0 z) (nat_abs z) h) (int_value binary32 (pos l) less)
+    ∙ add_value binary32 (round binary32 (below_0 z) (nat_abs z * 65536) 1) (of_int binary32 (pos l)) (below_0 z) false
+    (nat_abs z * 65536) l 1 (zero-lt-suc 0) (upper (below_0 z) (nat_abs z) h) (int_value binary32 (pos l) less)
   where
     few : nat_abs z ≤ 16777216
     few = omega arith

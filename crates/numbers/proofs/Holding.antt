@@ -183,7 +183,9 @@ clamped_cast (fin false m e) = ⊎_elim few many (below_or (m * up e / down e) 3
         clamp_over (min (m * up e / down e) 2147483647) (omega arith) ∙ ap pos i
 clamped_cast (fin true m e) = ⊎_elim few many (below_or (m * up e / down e) 32768)
   where
-    few : m * up e / down e < 32768 → clamp16 (neg_ℤ (pos (min (m * up e / down e) 2147483648))) ≡ neg_ℤ (pos (min (m * up e / down e) 32768))
+    few :
+        m * up e / down e < 32768
+        → clamp16 (neg_ℤ (pos (min (m * up e / down e) 2147483648))) ≡ neg_ℤ (pos (min (m * up e / down e) 32768))
     few h =
         let i : min (m * up e / down e) 2147483648 ≡ min (m * up e / down e) 32768 = omega arith in
         clamp_neg (min (m * up e / down e) 2147483648) (omega arith) ∙ ap (λ (k : ℕ). neg_ℤ (pos k)) i

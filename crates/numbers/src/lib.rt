@@ -3,6 +3,7 @@
 // function takes every number of its types and gives what the definition of that name in specs/ says. Values only: no memory is
 // read or written, but for `ranged`, which reads a slice to know that its numbers are those of their type.
 #![tactic(auto)]
+
 pub mod bits;
 pub mod casts;
 pub mod ranged;

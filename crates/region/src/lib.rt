@@ -1,6 +1,7 @@
 // Region choice: which of the two regions the title wrote last. `current_region` takes the two frame counters, any two numbers of 16 bits,
 // and gives the number of the region to read, 0 or 1. It refuses nothing. The counters wrap around from 0xFFFF.
 #![tactic(auto)]
+
 ghost use Rattle.std.specs.Prelude.{◌≡◌};
 ghost use Rattle.region.specs.Choice.{chosen};
 

@@ -2,6 +2,7 @@
 // that was asked for, uncopied, or its empty part where some byte is absent; `present` tells an absent part from an empty one. Both take
 // any window, base, address and length. `window_number` gives 4 where the window would end past the last 32-bit address, else 0.
 #![tactic(auto)]
+
 ghost use Rattle.std.specs.Prelude.{◌≡◌, ◌-◌, ◌≤◌, length};
 ghost use Rattle.window.specs.Window.{present_in, look_up, window_number};
 

@@ -1,17 +1,9 @@
 -- `layout::apart_from` meets its contract: what the definition says of the places from the index on is what it says of those asked about.
 -- Assumes nothing.
-use mathlib.Core.Path.{◌≡◌, sym, ap, ◌∙◌}
-use mathlib.Core.Bool.{◌&&◌}
-use mathlib.Core.List.{List}
-use Prim.Native.Nat.{ℕ, ◌+◌, ◌-◌, ◌≤◌, ◌<◌}
-use native.Mathlib.Omega.{arith}
-use lib.ListN.{length, drop, get_or}
-use borrow.Author.Rules.{rules}
-use borrow.Author.Tests.{not-true, not-false}
-use Rattle.lists.proofs.Bools.{and_no, and_yes}
-use Rattle.lists.proofs.Walk.{drop_next, drop_end}
-use Rattle.layout.specs.declared.Place.{Place}
-use Rattle.layout.specs.Places.{place, apart_two, apart_from}
+use mathlib.Core.Path.{◌≡◌}
+use Prim.Native.Nat.{◌-◌, ◌≤◌}
+use lib.ListN.{drop}
+use Rattle.layout.specs.Places.{apart_from}
 use Rattle.layout.proofs.apart_from.Given as goal
 
 abbrev pub invariant-loop-j : goal.invariant-loop-j

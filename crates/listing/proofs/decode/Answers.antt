@@ -43,10 +43,13 @@ pub returns : goal.returns
 returns c =
     let a = c.args in
     let b = a.bytes.now in
+    let w = c.requires.whole in
+    let room = c.requires.count_in_bounds in
+    let ce = c.coefficients-coefficients.ensures in
+    let he = c.history-history.ensures in
+    let d = c.decode_adpcm-decoded in
     let f : take (length b - header) (drop header b) ≡ drop header b = take_all (length b - header) (drop header b)
     (simp length-drop (omega arith)) in record {
-      samples = samples_come b _ _ _ a.count a.samples.now c.requires.whole c.requires.count_in_bounds c.coefficients-coefficients.ensures c.history-history.ensures f
-          c.decode_adpcm-decoded.new.samples c.decode_adpcm-decoded.ensures.output;
-      history = history_comes b _ _ _ a.count a.samples.now c.requires.whole c.requires.count_in_bounds c.coefficients-coefficients.ensures c.history-history.ensures f
-          c.decode_adpcm-decoded.result c.decode_adpcm-decoded.ensures.answer;
+      samples = samples_come b _ _ _ a.count a.samples.now w room ce he f d.new.samples d.ensures.output;
+      history = history_comes b _ _ _ a.count a.samples.now w room ce he f d.result d.ensures.answer;
     }

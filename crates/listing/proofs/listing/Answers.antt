@@ -4,6 +4,7 @@ use mathlib.Core.Bool.{false}
 use mathlib.Core.List.{List, ◌++◌}
 use Prim.Native.Nat.{ℕ, ◌+◌, ◌≤◌, ◌<◌}
 use native.Mathlib.Omega.{arith}
+use lib.ListN
 use lib.ListN.{length, drop, length-append}
 use borrow.Author.Tests.{eq-eqb, ne_eqb}
 use Rattle.lists.proofs.Bools.{cond_yes, cond_no}
@@ -15,23 +16,34 @@ use Rattle.listing.specs.Listing.{count_in, complete, tables_of, only_nine, list
 use borrow.Author.Rules.{rules}
 use Rattle.listing.proofs.listing.Goals as goal
 
+-- what a listing promises of its result and of its output
 abbrev Listed : List ℕ → List ℕ → List ℕ → ℕ → Type 0
-Listed input old new r = (r ≡ length (listed input)) × ((new ≡ listed input ++ drop r old) × (r ≤ length new))
+Listed input old new r = record {
+  length : r ≡ ListN.length (listed input);
+  output : new ≡ listed input ++ drop r old;
+  within : r ≤ ListN.length new;
+}
 
 -- the listing, put from the first place on
 put_listed : (input old text new : List ℕ) (r : ℕ) → text ≡ listed input → Put old 0 text new r → r ≤ output_room → length old ≡ output_room
     → Listed input old new r
 put_listed input old text new r e p h k =
-    (after ∙ ap length e, (begins, omega (arith, after ∙ ap length e, ap length begins, length-append (listed input) (drop r old))))
+    record {
+      length = after ∙ ap length e;
+      output = begins;
+      within = omega (arith, after ∙ ap length e, ap length begins, length-append (listed input) (drop r old));
+    }
   where
     after : r ≡ length text
     after = omega (arith, p.after)
+
     begins : new ≡ listed input ++ drop r old
     begins = p.stored ∙ splice_is old 0 text (omega (arith, p.after)) ∙ (λ j. e j ++ drop (sym p.after j) old)
 
 -- an incomplete input
 nine_listed :
-    (input old new : List ℕ) (r : ℕ) → complete input ≡ false → Put old 0 only_nine new r → length old ≡ output_room → Listed input old new r
+    (input old new : List ℕ) (r : ℕ) → complete input ≡ false → Put old 0 only_nine new r → length old ≡ output_room
+    → Listed input old new r
 unfolding decimal listed
 nine_listed input old new r t p k =
     put_listed input old only_nine new r (sym (cond_no (tables_of input) only_nine t)) p (omega (arith, p.after)) k

@@ -1,10 +1,7 @@
 -- `little::copy` meets its contract: the loop fills the slice with `src` from the front. Assumes nothing.
-use mathlib.Core.Path.{refl}
 use Prim.Native.Nat.{◌-◌}
-use native.Mathlib.Omega.{arith}
 use lib.ListN.{length}
-use Rattle.lists.proofs.Fill.{Filling, filling_none, filling_more, filling_all}
-use borrow.Author.Rules.{rules}
+use Rattle.lists.proofs.Fill.{Filling}
 use Rattle.little.proofs.copy.Given as goal
 
 abbrev pub invariant-loop-i : goal.invariant-loop-i

@@ -5,6 +5,6 @@ use Rattle.listing.proofs.table.put_headings.Goals as goal
 
 pub returns : goal.returns
 returns c = record {
-      row = put_more c.put_column-middle.ensures.column (put_more c.put_column-end.ensures.column c.put.ensures);
-      next = omega (arith, c.put_column-middle.ensures.next, c.put_column-end.ensures.next, c.put.ensures.after);
-    }
+  row = put_more c.put_column-middle.ensures.column (put_more c.put_column-end.ensures.column c.put.ensures);
+  next = omega (arith, c.put_column-middle.ensures.next, c.put_column-end.ensures.next, c.put.ensures.after);
+}

@@ -10,7 +10,7 @@ use Rattle.listing.proofs.table.put_last.Goals as goal
 
 pub returns : goal.returns
 returns c = record {
-      column = put_more (put_as (ap (λ (z : ℤ). column width (signed_decimal z)) (to_z-of_z c.ranges.y)) c.put_signed-end.ensures.column)
-          c.put.ensures;
-      next = omega (arith, c.put_signed-end.ensures.next, c.put.ensures.after);
-    }
+  column = put_more (put_as (ap (λ (z : ℤ). column width (signed_decimal z)) (to_z-of_z c.ranges.y)) c.put_signed-end.ensures.column)
+      c.put.ensures;
+  next = omega (arith, c.put_signed-end.ensures.next, c.put.ensures.after);
+}

@@ -1,6 +1,5 @@
 -- `listing::text::put` meets its contract: a turn takes one byte off the front of what is left to put. Assumes nothing.
 use mathlib.Core.Path.{refl}
-use Prim.Native.Nat.{◌-◌}
 use Rattle.listing.proofs.Puts.{putting_more, putting_all}
 use Rattle.listing.proofs.text.put.Goals as goal
 

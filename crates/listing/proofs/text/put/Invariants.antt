@@ -1,9 +1,7 @@
 -- `listing::text::put` meets its contract: a turn takes one byte off the front of what is left to put. Assumes nothing.
-use mathlib.Core.Path.{refl}
 use Prim.Native.Nat.{◌-◌}
 use lib.ListN.{length}
-use borrow.Author.Rules.{rules}
-use Rattle.listing.proofs.Puts.{Putting, putting_none, putting_more, putting_all}
+use Rattle.listing.proofs.Puts.{Putting}
 use Rattle.listing.proofs.text.put.Given as goal
 
 abbrev pub invariant-loop-i : goal.invariant-loop-i

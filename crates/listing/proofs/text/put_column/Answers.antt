@@ -17,6 +17,6 @@ spaced c =
 
 pub returns : goal.returns
 returns c = record {
-      column = put_more c.put_spaces-first.ensures c.put.ensures;
-      next = omega (arith, c.put.ensures.after, spaced c, c.requires.text_len_bound);
-    }
+  column = put_more c.put_spaces-first.ensures c.put.ensures;
+  next = omega (arith, c.put.ensures.after, spaced c, c.requires.text_len_bound);
+}

@@ -45,31 +45,28 @@ module _ (digits old text : List ℕ) (first all : ℕ) (e : Ends old digits tex
           ∙ ap (λ (l : List ℕ). v ∷ l) after
 
 -- 20 digits are enough for 64 bits
-few : (c : goal.After-text-1) → length (decimal c.args.n) ≤ 20
-few c = short 19 c.args.n below
+few : (n : ℕ) → n < 18446744073709551616 → length (decimal n) ≤ 20
+few n h = short 19 n below
   where
-    below : c.args.n < 100000000000000000000
+    below : n < 100000000000000000000
     below = omega arith
 
-leaves_room : (c : goal.Then-negative) → 1 ≤ c.write_digits-first.result
-leaves_room c = omega (arith, few c.before.before.before, c.write_digits-first.ensures.all)
-
-negative_text : (c : goal.After-slice_known-then-negative-1) → let w = c.write_digits-first in
-    take (21 - (w.result - 1)) (drop (w.result - 1) (set w.new.text (w.result - 1) 45))
-    ≡ numeral c.args.negative c.args.n
-negative_text c =
-    from_sign _ _ c.write_digits-first.new.text c.write_digits-first.result 21 c.write_digits-first.ensures refl 45 (leaves_room c.before.before.before.before.before)
-    ∙ sym (cond_yes _ _ c.if-negative.true)
+leaves_room : {n first : ℕ} {old text : List ℕ} → n < 18446744073709551616 → Ends old (decimal n) text first → length old ≡ 21 → 1 ≤ first
+leaves_room {n} h e l = omega (arith, few n h, e.all)
 
 pub write_digits-first-requires : goal.write_digits-first-requires
-write_digits-first-requires c = omega (arith, few c)
+write_digits-first-requires c = omega (arith, few c.args.n (omega arith))
 
 pub overflow_sub-sign : goal.overflow_sub-sign
-overflow_sub-sign c = leaves_room c
+overflow_sub-sign c = leaves_room (omega arith) c.write_digits-first.ensures refl
 
 pub returns-then-negative : goal.returns-then-negative
 returns-then-negative c =
-    let a = c.args in record {
-      column = put_as (ap (column a.width) (negative_text c)) c.put_column.ensures.column;
+    let a = c.args in
+    let w = c.write_digits-first in
+    let t : take (21 - (w.result - 1)) (drop (w.result - 1) (set w.new.text (w.result - 1) 45)) ≡ numeral a.negative a.n
+    = from_sign _ _ w.new.text w.result 21 w.ensures refl 45 (leaves_room (omega arith) w.ensures refl)
+    ∙ sym (cond_yes _ _ c.if-negative.true) in record {
+      column = put_as (ap (column a.width) t) c.put_column.ensures.column;
       next = c.put_column.ensures.next;
     }

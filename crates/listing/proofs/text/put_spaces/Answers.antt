@@ -1,7 +1,7 @@
 -- `listing::text::put_spaces` meets its contract: the loop that puts a text, of spaces alone. Assumes nothing.
 use mathlib.Core.Path.{◌≡◌, sym}
 use mathlib.Core.List.{List}
-use Prim.Native.Nat.{ℕ, ◌-◌}
+use Prim.Native.Nat.{ℕ}
 use native.Mathlib.Omega.{arith}
 use lib.ListN.{length, replicate, length-replicate, get_or-replicate}
 use Rattle.listing.proofs.Puts.{putting_more, putting_all}

@@ -1,11 +1,8 @@
 -- `listing::text::put_spaces` meets its contract: the loop that puts a text, of spaces alone. Assumes nothing.
-use mathlib.Core.Path.{◌≡◌, sym}
 use mathlib.Core.List.{List}
 use Prim.Native.Nat.{ℕ, ◌-◌}
-use native.Mathlib.Omega.{arith}
-use lib.ListN.{length, replicate, length-replicate, get_or-replicate}
-use borrow.Author.Rules.{rules}
-use Rattle.listing.proofs.Puts.{Putting, putting_none, putting_more, putting_all}
+use lib.ListN.{replicate}
+use Rattle.listing.proofs.Puts.{Putting}
 use Rattle.listing.proofs.text.put_spaces.Given as goal
 
 -- so many spaces

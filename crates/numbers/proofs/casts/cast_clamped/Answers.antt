@@ -2,7 +2,7 @@
 use Rattle.std.proofs.Common.{◌≡◌, ℤ, pos, sym, ap, ◌∙◌, subst, to_z-of_z, w16, w32, SFits, to_z, of_z}
 use lib.Ieee.{Float}
 use Rattle.numbers.specs.Casts.{cast_i32}
-use Rattle.numbers.specs.Held.{held, size_of, Small, whole_of, with_sign}
+use Rattle.numbers.specs.Held.{size_of, Small, whole_of, with_sign}
 use Rattle.numbers.specs.Wrap.{clamp16}
 use Rattle.numbers.proofs.Bounds.{is_read, result_read}
 use Rattle.numbers.proofs.Holding.{holds}

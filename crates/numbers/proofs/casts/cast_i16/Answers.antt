@@ -29,11 +29,15 @@ double_whole-requires c =
 pub float_to_int-result : goal.float_to_int-result
 float_to_int-result c =
     let x = c.args.x in
-    subst (λ (y : Float). T (in_signed binary64 15 y)) (sym (signed _ _ _ _ _ c.double_held-z.ensures c.double_size.ensures c.double_whole.ensures c.double_with_sign.ensures)) (signed_back (cast_i16 x) (to_signed_in 15 x)).0
+    subst (λ (y : Float). T (in_signed binary64 15 y))
+    (sym (signed _ _ _ _ _ c.double_held-z.ensures c.double_size.ensures c.double_whole.ensures c.double_with_sign.ensures))
+    (signed_back (cast_i16 x) (to_signed_in 15 x)).0
 
 pub returns : goal.returns
 returns c =
     let x = c.args.x in
     let y = c.double_with_sign.result in
-    result_read w16 (to_signed 15 y) (to_signed_in 15 y) ∙ ap (to_signed 15) (signed _ _ _ _ _ c.double_held-z.ensures c.double_size.ensures c.double_whole.ensures c.double_with_sign.ensures)
+    result_read w16 (to_signed 15 y) (to_signed_in 15 y)
+    ∙ ap (to_signed 15)
+    (signed _ _ _ _ _ c.double_held-z.ensures c.double_size.ensures c.double_whole.ensures c.double_with_sign.ensures)
     ∙ (signed_back (cast_i16 x) (to_signed_in 15 x)).1

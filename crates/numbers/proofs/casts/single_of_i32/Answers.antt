@@ -27,5 +27,6 @@ pub returns : goal.returns
 returns c =
     let n = c.args.n in
     let f = c.ranges.n in
-    (λ i. add binary32 (mul binary32 (of_int binary32 (upper n f i)) (two_to_16 i)) (of_int binary32 ((read n f ∙ ap pos (low_is32 n f)) i)))
+    (λ i. add binary32 (mul binary32 (of_int binary32 (upper n f i)) (two_to_16 i))
+    (of_int binary32 ((read n f ∙ ap pos (low_is32 n f)) i)))
     ∙ halves n f.sfits

@@ -1,7 +1,6 @@
 -- `numbers::ranged::ranged32` meets its contract: each value that is read is known to be one of its type. Assumes nothing.
-use Rattle.std.proofs.Common.{ℕ, ◌-◌, ◌<◌, ◌≤◌, length, get_or, ℤ, pos, arith, lit<, rules, below_none, below_more}
+use Rattle.std.proofs.Common.{ℕ, ◌-◌, ◌<◌, ◌≤◌, length, get_or, pos}
 use lib.Signed.{mag}
-use Rattle.lists.proofs.Walk.{everywhere}
 use Rattle.numbers.proofs.ranged.ranged32.Given as goal
 
 abbrev pub invariant-loop-i : goal.invariant-loop-i
