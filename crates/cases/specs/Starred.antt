@@ -26,8 +26,8 @@ history yn1 yn2 = record { yn1 = yn1; yn2 = yn2 }
 abbrev half : Float
 half = fin false 1 (negsuc 0)
 
-abbrev one_andAHalf : Float
-one_andAHalf = fin false 3 (negsuc 0)
+abbrev one_and_a_half : Float
+one_and_a_half = fin false 3 (negsuc 0)
 
 abbrev 2^24 : Float
 2^24 = fin false 1 (pos 24)
@@ -81,7 +81,7 @@ starred =
     ∷ step (replicate 16 (negsuc 32767)) (history (negsuc 32767) (negsuc 32767)) (replicate 8 0) (negsuc 32767) (pos 32767)
     ∷ step (replicate 16 (pos 0)) (history (pos 0) (pos 0)) (15 ∷ 128 ∷ replicate 6 0) (negsuc 32767) (negsuc 32767)
     ∷ between (pos 0) (negsuc 2) half (negsuc 0)
-    ∷ between (pos 0) (pos 100) one_andAHalf (pos 150)
+    ∷ between (pos 0) (pos 100) one_and_a_half (pos 150)
     ∷ queued (7 ∷ 3 ∷ 3 ∷ []) 1 (7 ∷ 3 ∷ [])
     ∷ rounded (pos 16777217) 2^24
     ∷ []

@@ -4,6 +4,7 @@
 // `dequeue` asks that no more is queued than a record has room for and that each queued ADPCM entry fits the lane, which a record that is
 // not malformed has.
 #![tactic(auto)]
+
 ghost use Rattle.std.specs.Prelude.{false, ◌≡◌, ◌*◌, ◌≤◌, ◌<◌, length};
 ghost use Rattle.adpcm.specs.Code.{frames_of};
 ghost use Rattle.adpcm.specs.Sizes.{frame_bytes, most_samples};

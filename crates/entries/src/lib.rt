@@ -3,5 +3,6 @@
 // which they are queued (`added`). The length of the bytes is required; nothing is refused, and no memory is written. `config` counts the
 // list for 20, looks through it for 21 and queues it.
 #![tactic(auto)]
+
 pub mod added;
 pub mod entry;

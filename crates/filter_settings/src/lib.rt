@@ -2,6 +2,7 @@
 // and the voice's 192 bytes, and gives the record back with its filters switched and given coefficients as the definitions of `settings`
 // say. The length of the bytes is required; nothing is refused, and no memory is written.
 #![tactic(auto)]
+
 ghost use Rattle.std.specs.Prelude.{◌≡◌, cond, ◌+◌, ◌≤◌, pos, length, replicate};
 ghost use Rattle.fields.specs.Fields.{configuration, total};
 ghost use Rattle.filters.specs.Defaults.{default_simple, default_biquad};

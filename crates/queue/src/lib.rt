@@ -2,6 +2,7 @@
 // answers where the first entry of smallest id stands, or that none is queued. `remove` takes the entry at a place out; the others keep
 // their order. Nothing is refused: both ask that no more entries are queued than the record has room for. No memory is read or written.
 #![tactic(auto)]
+
 ghost use Rattle.std.specs.Prelude.{true, ◌≡◌, ◌≤◌, ◌<◌};
 ghost use Rattle.voice.specs.Blank.{limit};
 ghost use Rattle.queue.specs.Search.{searched};

@@ -2,5 +2,6 @@
 // them (`refusal`). The list comes from `entries`, the record by value. `refusal` says the number and changes nothing; `push` requires that
 // there is room. No memory is read or written.
 #![tactic(auto)]
+
 pub mod push;
 pub mod refusal;

@@ -1,33 +1,27 @@
 // Standard input and output.
 ghost use Rattle.std.specs.Prelude.{◌≤◌, length};
 
-use io::write_all;
+use std::io;
+use std::io::Read;
 
 // Says that a job is bad and why, and that the program is to stop.
-pub fn bad(reason: u8) -> bool {
+pub fn bad(rt: &HostRuntime, reason: u8) -> io::Result<bool> {
     let answer = [255, reason];
-    write_all(1, &answer);
-    false
-}
-
-// Reads bytes of a part, and says how many.
-fn some(part: &mut [u8]) -> usize
-    ensures { result ≤ length part.new }
-{
-    io::count(libc::read(0, part), part)
+    rt.write_all(&answer)?;
+    Ok(false)
 }
 
 // Reads until the bytes are full or the input ends, and says how many were read.
-pub fn fill(bytes: &mut [u8]) -> usize {
+pub fn fill(rt: &HostRuntime, bytes: &mut [u8]) -> io::Result<usize> {
     let mut done = 0;
     while done < bytes.len() {
-        let got = some(&mut bytes[done..]);
+        let got = rt.stdin().read(&mut bytes[done..])?;
         if got == 0 {
-            return done;
+            break;
         }
         done += got;
     }
-    done
+    Ok(done)
 }
 
 // A length, but no more than there is.
@@ -41,13 +35,14 @@ pub fn within(size: usize, most: usize) -> usize
 }
 
 // Reads so many bytes, and says whether they were there.
-pub fn fill_first(bytes: &mut [u8], size: usize) -> bool {
+pub fn fill_first(rt: &HostRuntime, bytes: &mut [u8], size: usize) -> io::Result<bool> {
     let end = within(size, bytes.len());
-    fill(&mut bytes[0..end]) == end
+    let got = fill(rt, &mut bytes[0..end])?;
+    Ok(got == end)
 }
 
 // Writes so many bytes.
-pub fn write_first(bytes: &[u8], size: usize) -> bool {
+pub fn write_first(rt: &HostRuntime, bytes: &[u8], size: usize) -> io::Result<()> {
     let end = within(size, bytes.len());
-    write_all(1, &bytes[0..end])
+    rt.write_all(&bytes[0..end])
 }

@@ -25,6 +25,7 @@ ghost use Rattle.std.specs.Prelude.{◌+◌, ◌≤◌};
 use crate::bytes::{bad, fill, fill_first, within, write_first};
 use crate::{mixer_calls, sound, voice_calls};
 use little::read32;
+use std::io;
 
 pub const HEAD: usize = 84;
 
@@ -98,6 +99,7 @@ fn reason(head: &[u8; HEAD]) -> u8 {
 
 // Reads all that follows the head, and says whether it is there: once the input ends nothing more is read.
 fn fields(
+    rt: &HostRuntime,
     head: &[u8; HEAD],
     records: &mut [u8; RECORDS],
     first: &mut [u8; REGION],
@@ -106,17 +108,19 @@ fn fields(
     lanes: &mut [i16; LANES],
     mixes: &mut [i32; MIXES],
     bytes: &mut [u8; ROOM],
-) -> bool {
-    fill_first(records, record_bytes(head))
-        & fill_first(first, size(head, 64))
-        & fill_first(second, size(head, 68))
-        & fill_first(window, size(head, 72))
-        & sound::lanes_of(bytes, size(head, 76), lanes)
-        & sound::mixes_of(bytes, size(head, 80), mixes)
+) -> io::Result<bool> {
+    let mut there = fill_first(rt, records, record_bytes(head))?;
+    there &= fill_first(rt, first, size(head, 64))?;
+    there &= fill_first(rt, second, size(head, 68))?;
+    there &= fill_first(rt, window, size(head, 72))?;
+    there &= sound::lanes_of(rt, bytes, size(head, 76), lanes)?;
+    there &= sound::mixes_of(rt, bytes, size(head, 80), mixes)?;
+    Ok(there)
 }
 
 // Writes what a call was lent but for the window.
 fn write(
+    rt: &HostRuntime,
     head: &[u8; HEAD],
     records: &[u8; RECORDS],
     first: &[u8; REGION],
@@ -124,12 +128,12 @@ fn write(
     lanes: &[i16; LANES],
     mixes: &[i32; MIXES],
     bytes: &mut [u8; ROOM],
-) -> bool {
-    write_first(records, record_bytes(head))
-        & write_first(first, size(head, 64))
-        & write_first(second, size(head, 68))
-        & sound::write_lanes(lanes, size(head, 76), bytes)
-        & sound::write_mixes(mixes, size(head, 80), bytes)
+) -> io::Result<()> {
+    write_first(rt, records, record_bytes(head))?;
+    write_first(rt, first, size(head, 64))?;
+    write_first(rt, second, size(head, 68))?;
+    sound::write_lanes(rt, lanes, size(head, 76), bytes)?;
+    sound::write_mixes(rt, mixes, size(head, 80), bytes)
 }
 
 // Makes the call, and gives the start of the answer.
@@ -150,6 +154,7 @@ fn call(
 
 // Answers one job, and says whether to go on. What is lent is room for its fields, and for what is not bytes among them.
 pub fn answer(
+    rt: &HostRuntime,
     records: &mut [u8; RECORDS],
     first: &mut [u8; REGION],
     second: &mut [u8; REGION],
@@ -157,22 +162,26 @@ pub fn answer(
     lanes: &mut [i16; LANES],
     mixes: &mut [i32; MIXES],
     bytes: &mut [u8; ROOM],
-) -> bool {
+) -> io::Result<bool> {
     let mut head = [0u8; HEAD];
-    let got = fill(&mut head);
+    let got = fill(rt, &mut head)?;
     if got == 0 {
-        return false;
+        return Ok(false);
     }
     if got < HEAD {
-        return bad(ENDS_EARLY);
+        return bad(rt, ENDS_EARLY);
     }
     let why = reason(&head);
     if why != 0 {
-        return bad(why);
+        return bad(rt, why);
     }
-    if !fields(&head, records, first, second, window, lanes, mixes, bytes) {
-        return bad(ENDS_EARLY);
+    if !fields(
+        rt, &head, records, first, second, window, lanes, mixes, bytes,
+    )? {
+        return bad(rt, ENDS_EARLY);
     }
     let start = call(&head, records, first, second, window, lanes, mixes);
-    io::write_all(1, &start) & write(&head, records, first, second, lanes, mixes, bytes)
+    rt.write_all(&start)?;
+    write(rt, &head, records, first, second, lanes, mixes, bytes)?;
+    Ok(true)
 }

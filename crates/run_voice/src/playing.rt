@@ -3,74 +3,84 @@
 // answer: the number and three zeros, the record after the frame, and the lane. A malformed record is answered 7, all else as it was.
 ghost use Rattle.std.specs.Prelude.{◌*◌, ◌≤◌, length};
 
+use crate::reading::read;
 use crate::written::write_answer;
+use std::io;
 
-fn write_lane(lane: &[i16]) -> bool
+fn write_lane(rt: &HostRuntime, lane: &[i16]) -> io::Result<()>
     requires { length lane.now ≤ 2048 }
 {
     let mut bytes = [0u8; 4096];
     replaying::put_halves(lane, &mut bytes, 0);
     let end = lane.len() * 2;
-    io::write_all(1, &bytes[0..end])
+    rt.write_all(&bytes[0..end])
 }
 
 // The last of it: plays the record over the window and the lane.
-fn played(window: &[u8], base: u32, lane: &mut [i16]) -> bool
+fn played(rt: &HostRuntime, window: &[u8], base: u32, lane: &mut [i16]) -> io::Result<bool>
     requires { length lane.old ≤ 2048 }
 {
     let mut record = [0u8; 2456];
-    if io::read_full(0, &mut record) != 2456 {
-        return false;
+    if !read(rt, &mut record)? {
+        return Ok(false);
     }
     let number = voice_jobs::playing::play(&mut record, window, base, lane);
-    write_answer(number, &record) && write_lane(lane)
+    write_answer(rt, number, &record)?;
+    write_lane(rt, lane)?;
+    Ok(true)
 }
 
 // Plays over the lane that the bytes hold.
-fn with_lane(window: &[u8], base: u32, bytes: &[u8], count: usize) -> bool
+fn with_lane(
+    rt: &HostRuntime,
+    window: &[u8],
+    base: u32,
+    bytes: &[u8],
+    count: usize,
+) -> io::Result<bool>
     requires count_bound { count ≤ 2048 }
     requires count_in_bounds { count * 2 ≤ length bytes.now }
 {
     let mut space = [0i16; 2048];
     let lane: &mut [i16] = &mut space[0..count];
     replaying::halves_at(bytes, 0, lane);
-    played(window, base, lane)
+    played(rt, window, base, lane)
 }
 
 // The next word; where the input ends the largest, which no count may be.
-fn word() -> u32 {
+fn word(rt: &HostRuntime) -> io::Result<u32> {
     let mut bytes = [0u8; 4];
-    if io::read_full(0, &mut bytes) != 4 {
-        return u32::MAX;
+    if !read(rt, &mut bytes)? {
+        return Ok(u32::MAX);
     }
-    little::read32(&bytes, 0)
+    Ok(little::read32(&bytes, 0))
 }
 
 // The rest of a job whose window was read.
-fn over(window: &[u8], base: u32) -> bool {
-    let count = word() as usize;
+fn over(rt: &HostRuntime, window: &[u8], base: u32) -> io::Result<bool> {
+    let count = word(rt)? as usize;
     if count > 2048 {
-        return false;
+        return Ok(false);
     }
     let mut space = [0u8; 4096];
     let size = count * 2;
     let bytes: &mut [u8] = &mut space[0..size];
-    if io::read_full(0, bytes) != size {
-        return false;
+    if !read(rt, bytes)? {
+        return Ok(false);
     }
-    with_lane(window, base, bytes, count)
+    with_lane(rt, window, base, bytes, count)
 }
 
-pub fn answer() -> bool {
-    let base = word();
-    let count = word() as usize;
+pub fn answer(rt: &HostRuntime) -> io::Result<bool> {
+    let base = word(rt)?;
+    let count = word(rt)? as usize;
     if count > 65536 {
-        return false;
+        return Ok(false);
     }
     let mut space = [0u8; 65536];
     let window: &mut [u8] = &mut space[0..count];
-    if io::read_full(0, window) != count {
-        return false;
+    if !read(rt, window)? {
+        return Ok(false);
     }
-    over(window, base)
+    over(rt, window, base)
 }

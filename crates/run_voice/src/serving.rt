@@ -5,23 +5,25 @@
 // What is refused stands there as it was.
 ghost use Rattle.std.specs.Prelude.{◌≡◌, length};
 
+use crate::reading::read;
 use crate::written::write_served;
-use io::read_full;
+use std::io;
 
 // The rest of it, once all before the record was read.
 fn served(
+    rt: &HostRuntime,
     base: u32,
     first: i32,
     window: &[u8; 512],
     lane: &mut [i16; 64],
     coefficients: &[u8],
-) -> bool
+) -> io::Result<bool>
     requires { length coefficients.now ≡ 32 }
 {
     let mut record = [0u8; 2456];
     let mut configuration = [0u8; 192];
-    if read_full(0, &mut record) != 2456 || read_full(0, &mut configuration) != 192 {
-        return false;
+    if !read(rt, &mut record)? || !read(rt, &mut configuration)? {
+        return Ok(false);
     }
     let mut status = [255u8; 12];
     let mut mixes = [first; 1920];
@@ -35,22 +37,23 @@ fn served(
         &mut mixes,
         &mut status,
     );
-    write_served(number, &record, &configuration, &status, lane, &mixes)
+    write_served(rt, number, &record, &configuration, &status, lane, &mixes)?;
+    Ok(true)
 }
 
-pub fn answer() -> bool {
+pub fn answer(rt: &HostRuntime) -> io::Result<bool> {
     let mut head = [0u8; 136];
     let mut window = [0u8; 512];
     let mut coefficients = [0u8; 32];
-    if read_full(0, &mut head) != 136 || read_full(0, &mut window) != 512 {
-        return false;
+    if !read(rt, &mut head)? || !read(rt, &mut window)? {
+        return Ok(false);
     }
-    if read_full(0, &mut coefficients) != 32 {
-        return false;
+    if !read(rt, &mut coefficients)? {
+        return Ok(false);
     }
     let mut lane = [0i16; 64];
     replaying::halves_at(&head, 8, &mut lane);
     let base = little::read32(&head, 0);
     let first = numbers::whole::to_signed32(little::read32(&head, 4));
-    served(base, first, &window, &mut lane, &coefficients)
+    served(rt, base, first, &window, &mut lane, &coefficients)
 }

@@ -1,13 +1,14 @@
 // How answers are written.
 ghost use Rattle.std.specs.Prelude.{◌<◌};
 
-use io::write_all;
 use numbers::whole::to_bits32;
+use std::io;
 
 // How every answer begins: a number and three zeros, and the record.
-pub fn write_answer(number: u8, record: &[u8; 2456]) -> bool {
+pub fn write_answer(rt: &HostRuntime, number: u8, record: &[u8; 2456]) -> io::Result<()> {
     let start = [number, 0, 0, 0];
-    write_all(1, &start) && write_all(1, record)
+    rt.write_all(&start)?;
+    rt.write_all(record)
 }
 
 fn wide(value: i32) -> u64
@@ -28,24 +29,25 @@ fn sum(mixes: &[i32]) -> u32 {
 }
 
 // Writes the lane, and the sum of the mixes.
-fn write_sound(lane: &[i16; 64], mixes: &[i32; 1920]) -> bool {
+fn write_sound(rt: &HostRuntime, lane: &[i16; 64], mixes: &[i32; 1920]) -> io::Result<()> {
     let mut bytes = [0u8; 132];
     replaying::put_halves(lane, &mut bytes, 0);
     little::write32(&mut bytes, 128, sum(mixes));
-    write_all(1, &bytes)
+    rt.write_all(&bytes)
 }
 
 // Writes all that an answer to a frame that was served has; `serving` tells its form.
 pub fn write_served(
+    rt: &HostRuntime,
     number: u8,
     record: &[u8; 2456],
     configuration: &[u8; 192],
     status: &[u8; 12],
     lane: &[i16; 64],
     mixes: &[i32; 1920],
-) -> bool {
-    if !write_answer(number, record) {
-        return false;
-    }
-    write_all(1, configuration) && write_all(1, status) && write_sound(lane, mixes)
+) -> io::Result<()> {
+    write_answer(rt, number, record)?;
+    rt.write_all(configuration)?;
+    rt.write_all(status)?;
+    write_sound(rt, lane, mixes)
 }

@@ -3,6 +3,7 @@
 // byte is absent both are 0. An ADPCM sample comes from the lane, where it was decoded: `decoded_at`. `sample_at` is the sample at an
 // index of an entry of any kind. Nothing is refused; the lane is asked to hold what was decoded.
 #![tactic(auto)]
+
 ghost use Rattle.std.specs.Prelude.{◌≡◌, ◌+◌, ◌*◌, ◌%◌, ◌^◌, ◌≤◌, length};
 ghost use Rattle.window.specs.Window.{look_up};
 ghost use Rattle.dequeue.specs.Dequeue.{aligned};

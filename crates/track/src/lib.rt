@@ -3,6 +3,7 @@
 // other than 0, the one between it and the next. Nothing is refused; what remains must be no more than the record's length, and the lane
 // must hold what was decoded.
 #![tactic(auto)]
+
 ghost use Rattle.std.specs.Prelude.{◌≡◌, ◌≤◌, ◌<◌, ◌-◌, min, length};
 ghost use Rattle.track.specs.Track.{is_plain, track_of, cursor_of, between_samples, heard_at, sound_of};
 ghost use Rattle.track.specs.Laid.{put};

@@ -1,4 +1,5 @@
 -- `queue::remove` meets its contract. The invariant: up to `j` the queue is as it is to be, and from `j` on as it was. Assumes nothing.
+use Rattle.std.proofs.Common.{rules}
 use Prim.Native.Nat.{ℕ, ◌≤◌, ◌<◌, ◌-◌, ◌+◌}
 use mathlib.Core.Path.{◌≡◌, refl, sym, ◌∙◌, ap}
 use mathlib.Core.List.{List}
@@ -11,19 +12,13 @@ use Rattle.voice.specs.declared.record.Entry.{Entry}
 use Rattle.voice.specs.declared.record.Voice.{Voice}
 use Rattle.queue.specs.Removal.{without, removed}
 use Rattle.queue.proofs.Removal.{without_length, without_start, without_next, without_last}
-use Rattle.queue.proofs.remove.Tie as tie
 use Rattle.queue.proofs.remove.Goals as goal
-
-long : (c : tie.Start invariant-loop decreases-loop) → length c.args.v.queue ≡ 64
-long c = queue_places c.args.v c.well-formed.0
-
-within : (c : tie.Start invariant-loop decreases-loop) → c.args.at < length c.args.v.queue
-within c = omega (arith, long c)
 
 pub loop-j-init : goal.loop-j-init
 loop-j-init c =
     let v = c.args.v in
-    (omega arith, omega arith, ap (λ (l : List Entry). set_voice_queue l v) (without_start v.queue c.args.at (within c)))
+    let n : length v.queue ≡ 64 = search rules in
+    (omega arith, omega arith, ap (λ (l : List Entry). set_voice_queue l v) (without_start v.queue c.args.at (omega arith)))
 
 pub loop-j-preserved : goal.loop-j-preserved
 unfolding blank_entry
@@ -32,8 +27,8 @@ loop-j-preserved c =
     let q = v.queue in
     let at = c.args.at in
     let j = c.loop-j.j in
-    let h = within c.before.before.before in
-    let n = long c.before.before.before in
+    let n : length q ≡ 64 = search rules in
+    let h : at < length q = omega arith in
     let t = without at q in
     let tl = without_length q at h in
     let here : j < length q = omega arith in
@@ -56,8 +51,8 @@ returns c =
     let v = c.args.v in
     let q = v.queue in
     let at = c.args.at in
-    let h = within c.before.before.before in
-    let n = long c.before.before.before in
+    let n : length q ≡ 64 = search rules in
+    let h : at < length q = omega arith in
     let t = without at q in
     let tl = without_length q at h in
     let b = c.blank_entry-b.result in

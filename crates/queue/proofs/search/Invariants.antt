@@ -1,12 +1,7 @@
 -- `queue::search` meets its contract. The invariant: `best` is the least of the first `i`. Assumes nothing.
 use Prim.Native.Nat.{◌≤◌, ◌<◌, ◌-◌}
-use mathlib.Core.Path.{◌≡◌, refl, sym, ◌∙◌, ap}
-use mathlib.Core.Logic.{⊎_elim}
-use native.Mathlib.Omega.{arith}
-use Rattle.voice.specs.Blank.{blank_entry}
-use Rattle.queue.specs.declared.Found.TheVariants.{At}
+use mathlib.Core.Path.{◌≡◌}
 use Rattle.queue.specs.Search.{least}
-use Rattle.queue.proofs.Least.{least_below, least_stays, search_some, search_none}
 use Rattle.queue.proofs.search.Given as goal
 
 abbrev pub invariant-loop-i : goal.invariant-loop-i
