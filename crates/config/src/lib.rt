@@ -4,4 +4,5 @@
 // required, and of the record that its queue is not over 64 and no more is left of its entry than its length: of a well-formed record both
 // hold. What a configuration comes to as a whole is said in `config_laws`.
 #![tactic(auto)]
+
 pub mod parse;

@@ -1,5 +1,5 @@
 -- Where the samples of an entry lie: PCM in one part of the window, ADPCM in the lane; and the sample that a voice produces from them. Only
--- the contracts of quick functions cite these; `ready-sound` of proofs/Ready.antt proves that they say what track's definitions say.
+-- the contracts of quick functions cite these; `ready_sound` of proofs/Ready.antt proves that they say what track's definitions say.
 -- Assumes nothing: these are definitions.
 use Rattle.std.specs.Prelude.{Bool, ◌&&◌, ◌||◌, not, cond, List, [], ◌≡◌, ℕ, ◌+◌, ◌-◌, ◌*◌, ◌^◌, ◌≤◌, ◌<◌, eqb, ltb, leb, ℤ, pos, length, get_or, Float}
 use Rattle.std.specs.Float.Ieee.{eq}

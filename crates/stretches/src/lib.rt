@@ -7,6 +7,7 @@
 // The way of the data: `source` finds the entry's samples in the window by one look-up, or in the lane; `steps` walks through the entry and
 // notes places and fractions; `fetch` brings the samples of those places; `blend` makes what lies between them.
 #![tactic(auto)]
+
 pub mod blend;
 pub mod entry;
 pub mod fetch;
