@@ -1,4 +1,4 @@
--- "Defaults are identities", as a statement. Assumes nothing: these are definitions; `defaults-are-identities` of proofs/Identity.antt
+-- "Defaults are identities", as a statement. Assumes nothing: these are definitions; `defaults_are_identities` of proofs/Identity.antt
 -- proves it.
 use Rattle.std.specs.Prelude.{◌≡◌, List, ℕ, ◌<◌, ℤ, pos, length, get_or}
 use Rattle.std.specs.Int.{w16}

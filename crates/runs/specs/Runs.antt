@@ -1,6 +1,6 @@
 -- Whole run and stems, of what `tick` and `tick_voice` give back and leave: `CallsCompared` is the claim of stems, `WholeAndStems`, with
 -- the two contracts in the place of its calls, and `CallsRun` says that there are such runs. Assumes nothing: these are definitions and
--- statements; `as-ensured`, `calls-compared` and `calls-run` of proofs/Runs.antt prove them.
+-- statements; `as_ensured`, `calls_compared` and `calls_run` of proofs/Runs.antt prove them.
 use Rattle.std.specs.Prelude.{◌≡◌, ℕ, ◌<◌, List, [], ◌∷◌, length, get_or, take}
 use Rattle.stems.specs.Call.{Refusal, Outcome, whole_number, alone_number}
 use Rattle.stems.specs.Memory.{VOICES, Lent, Typed}
@@ -73,7 +73,7 @@ CallsCompared =
     → (stem : ℕ → ℕ → Done) → ((v : ℕ) → v < VOICES → RunOf (VoiceTicked fx v) start frames (stem v))
     → (k : ℕ) → k < length frames → Compared fx start.memory frames k (outcome_of (whole k)) (λ v. outcome_of (stem v k))
 
--- The claim is not empty: from every start, and `runs-exist` of stems has one that is accepted, there are such runs for every recording.
+-- The claim is not empty: from every start, and `runs_exist` of stems has one that is accepted, there are such runs for every recording.
 pub record CallsRun : Type 0 where
   pub whole : (fx : Fixed) (start : Lent) (frames : List Frame) → (done : ℕ → Done) × RunOf (Ticked fx) start frames done
   pub stem : (fx : Fixed) (v : ℕ) (start : Lent) (frames : List Frame) → (done : ℕ → Done) × RunOf (VoiceTicked fx v) start frames done

@@ -1,4 +1,4 @@
--- A refused voice stands in the list once, and no other voice: `listed-once`. An order takes each voice once, and of its voices those whose
+-- A refused voice stands in the list once, and no other voice: `listed_once`. An order takes each voice once, and of its voices those whose
 -- number is not 0 are listed. By induction on the order. Assumes nothing.
 use mathlib.Core.Path.{◌≡◌, refl, sym, ap, ap₂, ◌∙◌}
 use mathlib.Core.Bool.{not, ◌&&◌, cond}

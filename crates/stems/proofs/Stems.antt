@@ -1,4 +1,4 @@
--- The whole run and the stem runs: `whole-and-stems`. Any run whose calls serve v once keeps what is v's own as v's frames alone leave it,
+-- The whole run and the stem runs: `whole_and_stems`. Any run whose calls serve v once keeps what is v's own as v's frames alone leave it,
 -- by induction on the frames; the whole run and the stem run of v are two such runs. Assumes nothing.
 use mathlib.Core.Path.{◌≡◌, refl, sym, ap, ◌∙◌, subst}
 use mathlib.Core.Bool.{Bool}

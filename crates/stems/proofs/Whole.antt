@@ -1,4 +1,4 @@
--- Every order of serving leaves the same: `every-order`. Each voice's own is what its frame alone leaves there, whichever voices come
+-- Every order of serving leaves the same: `every_order`. Each voice's own is what its frame alone leaves there, whichever voices come
 -- before and after it, and memory is made up of the voices' own and of what no voice writes. The list of refused voices is that of their
 -- answers in memory as the call finds it, in the call's order. Assumes nothing.
 use mathlib.Core.Path.{◌≡◌, refl, sym, ap, ◌∙◌, subst}

@@ -1,5 +1,5 @@
 -- What a call for one voice alone leaves: its answer in memory as the call finds it, put where the voice's own lies, and in the mix buffer
--- what the voice adds. Assumes nothing: these are definitions and a statement; `one-in-turn` of proofs/Alone.antt proves it.
+-- what the voice adds. Assumes nothing: these are definitions and a statement; `one_in_turn` of proofs/Alone.antt proves it.
 use Rattle.std.specs.Prelude.{◌≡◌, ℕ, zero, suc, [], ◌∷◌}
 use Rattle.lists.specs.Tabulate.{tabulate}
 use Rattle.numbers.specs.Sizes.{MIXES}

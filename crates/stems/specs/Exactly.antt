@@ -1,5 +1,5 @@
 -- What the numbers of the two calls mean: each is given exactly if its line of document 01's table holds, and none above it.
--- Assumes nothing: these are statements; `whole-exactly` and `alone-exactly` of proofs/Exactly.antt prove them of every call.
+-- Assumes nothing: these are statements; `whole_exactly` and `alone_exactly` of proofs/Exactly.antt prove them of every call.
 use Rattle.std.specs.Prelude.{ℕ, ◌+◌, ◌*◌, ◌^◌, ◌≤◌, ◌<◌, ◌≢◌, length}
 use Rattle.lists.specs.Lowest.{LowestGiven}
 use Rattle.numbers.specs.Sizes.{MIXES}

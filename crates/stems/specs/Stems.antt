@@ -1,4 +1,4 @@
--- Whole run and stems: `WholeAndStems` is the claim, and `whole-and-stems` of proofs/Stems.antt proves it. The runs are made of calls as
+-- Whole run and stems: `WholeAndStems` is the claim, and `whole_and_stems` of proofs/Stems.antt proves it. The runs are made of calls as
 -- the two contracts have them (Whole.antt, Alone.antt): the claim holds of every outcome that these allow, whatever order a call took.
 -- Assumes nothing: these are definitions and statements.
 use Rattle.std.specs.Prelude.{◌≡◌, ℕ, zero, suc, ◌<◌, true, List, [], ◌∷◌, ℤ, pos, length, get_or, set}

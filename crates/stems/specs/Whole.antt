@@ -1,5 +1,5 @@
 -- What a call for all voices leaves, whatever the order in which it takes them: each voice's answer in memory as the call finds it, put
--- where that voice's own lies. Assumes nothing: these are definitions and statements; `every-order` of proofs/Whole.antt and `listed-once`
+-- where that voice's own lies. Assumes nothing: these are definitions and statements; `every_order` of proofs/Whole.antt and `listed_once`
 -- of proofs/Listed.antt prove the two.
 use Rattle.std.specs.Prelude.{◌≡◌, ℕ, zero, suc, ◌+◌, Bool, true, false, not, ◌&&◌, cond, eqb, ltb, ℤ}
 use mathlib.Core.List.{List, [], ◌∷◌, map, Permᴰ}

@@ -2,7 +2,7 @@
 // record by value, and lent to it are the voice's lane, its configuration and its coefficients in the region that is read, the window with
 // its base, the mixes, and the voice's status in the other region. It answers the number and the record. A voice that is refused, by 20 or
 // 21, keeps record, lane, configuration and status and adds nothing to the mixes. Nothing else is refused: the record must be well-formed
-// for the lane, and the parts of their lengths. What it does is the definition `voiceFrame` (specs/VoiceFrame).
+// for the lane, and the parts of their lengths. What it does is the definition `voice_frame` (specs/VoiceFrame).
 #![tactic(auto)]
 pub mod mixes;
 pub mod serve;

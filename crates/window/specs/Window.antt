@@ -1,4 +1,4 @@
--- A window on memory: bytes, and the address of the first. Assumes nothing: these are definitions; `window-exactly` and `looked-up` of
+-- A window on memory: bytes, and the address of the first. Assumes nothing: these are definitions; `window_exactly` and `looked_up` of
 -- proofs/Bytes.antt prove the two statements.
 use Rattle.std.specs.Prelude.{◌≡◌, ◌↔◌, ℕ, ◌+◌, ◌-◌, ◌^◌, ◌≤◌, ◌<◌, Bool, true, ◌&&◌, ◌||◌, cond, List, [], eqb, ltb, leb, length, get_or}
 use Rattle.lists.specs.Splice.{part}
