@@ -4,5 +4,6 @@
 // full or nothing is queued. Nothing is refused: the record must be well-formed for the lane's length. The definition (specs/Play) goes a
 // sample at a time; `entry::play_entry` plays an entry on as far as the frame and the entry go.
 #![tactic(auto)]
+
 pub mod entry;
 pub mod frame;
