@@ -141,7 +141,7 @@ module _ (fx : Fixed) where
       lane_samples =
           subst (λ r. every (signed 16) r ≡ true) (sym (lane_is v m.lanes L refl))
           (every_part (signed 16) (v * L) L m.lanes g.typed.lanes);
-      configuration_bytes_lem = every_part is_byte (fx.layout.configurations + 192 * v) 192 read read_bytes;
+      configuration_bytes = every_part is_byte (fx.layout.configurations + 192 * v) 192 read read_bytes;
       configuration_length =
           length_part (fx.layout.configurations + 192 * v) 192 read
           (omega (arith, read_length, (fitting m g).layout.within 0 (lit< tt)));
@@ -178,8 +178,8 @@ module _ (fx : Fixed) where
               ∙ put_formed r k;
           typed = record {
             region0 =
-                bytes_written fx.layout v r k.configuration_bytes_lem k.status_bytes (not second) m.region0 g.typed.region0;
-            region1 = bytes_written fx.layout v r k.configuration_bytes_lem k.status_bytes second m.region1 g.typed.region1;
+                bytes_written fx.layout v r k.configuration_bytes k.status_bytes (not second) m.region0 g.typed.region0;
+            region1 = bytes_written fx.layout v r k.configuration_bytes k.status_bytes second m.region1 g.typed.region1;
             window = g.typed.window;
             arrays = every_set sized m.records v r.voice g.typed.arrays k.arrays;
             records = every_set in_range m.records v r.voice g.typed.records k.range;
@@ -197,7 +197,7 @@ module _ (fx : Fixed) where
     unfolding LongAs fed_in
     answer_long (refused n) e = tt
     answer_long (served r) e =
-        let k = given_kept r e in (k.lane_length_lem ∙ lane_length_lem, k.configuration_length ∙ right.configuration_length, k.status_length)
+        let k = given_kept r e in (k.lane_length ∙ lane_length_lem, k.configuration_length ∙ right.configuration_length, k.status_length)
 
     pub good_turn : Turn fx second v m
     good_turn = record { voice = h; fit = fitting m g; long = answer_long (answer fx second v m) refl }

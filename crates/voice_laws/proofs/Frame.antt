@@ -78,7 +78,7 @@ module _ (f : Fed) (r : Right f) where
 
   settled_range : in_range u ≡ true
   settled_range =
-      set-ranged.keeps_range f.configuration f.coefficients f.voice L r.configuration_bytes_lem r.coefficients_bytes r.range
+      set-ranged.keeps_range f.configuration f.coefficients f.voice L r.configuration_bytes r.coefficients_bytes r.range
 
   played_whole : Whole L (played f.window f.base u f.lane).voice
   played_whole =
@@ -134,8 +134,8 @@ frame_kept f r g e =
       arrays = sized_test (left s) w.arrays;
       range = in_range_test (left s) w.range;
       lane_samples = lane_16 f r;
-      lane_length_lem = lane_long f r;
-      configuration_bytes_lem = bytes_in f.configuration f.coefficients f.voice L r.configuration_bytes_lem;
+      lane_length = lane_long f r;
+      configuration_bytes = bytes_in f.configuration f.coefficients f.voice L r.configuration_bytes;
       configuration_length = bytes_long f.configuration f.coefficients f.voice L;
       status_bytes = status_in s (sounded_whole f r).range;
       status_length = status_long s;

@@ -19,7 +19,7 @@ pub record Right (f : Fed) : Type 0 where
   pub arrays : sized f.voice ≡ true
   pub range : in_range f.voice ≡ true
   pub lane_samples : every (signed 16) f.lane ≡ true
-  pub configuration_bytes_lem : every is_byte f.configuration ≡ true
+  pub configuration_bytes : every is_byte f.configuration ≡ true
   pub configuration_length : length f.configuration ≡ total configuration
   pub coefficients_bytes : every is_byte f.coefficients ≡ true
   pub coefficients_length : length f.coefficients ≡ coefficient_bytes
@@ -32,8 +32,8 @@ pub record Kept (f : Fed) (g : Given) : Type 0 where
   pub arrays : sized g.voice ≡ true
   pub range : in_range g.voice ≡ true
   pub lane_samples : every (signed 16) g.lane ≡ true
-  pub lane_length_lem : length g.lane ≡ length f.lane
-  pub configuration_bytes_lem : every is_byte g.configuration ≡ true
+  pub lane_length : length g.lane ≡ length f.lane
+  pub configuration_bytes : every is_byte g.configuration ≡ true
   pub configuration_length : length g.configuration ≡ length f.configuration
   pub status_bytes : every is_byte g.status ≡ true
   pub status_length : length g.status ≡ total status

@@ -1,0 +1,12 @@
+-- `voice_frame::mixes::mix_into` meets its contract, by whether the voice is enabled. Assumes nothing.
+use mathlib.Core.Path.{◌∙◌}
+use Rattle.voice_frame.proofs.Parts.{mixed_on, mixed_off}
+use Rattle.voice_frame.proofs.mixes.mix_into.Goals as goal
+
+pub returns-then-v : goal.returns-then-v
+returns-then-v c =
+    c.mix_voice.ensures ∙ mixed_on c.args.v c.args.mixes.now c.if-v.true
+
+pub returns : goal.returns
+returns c =
+    mixed_off c.args.v c.args.mixes.now c.if-v.false c.requires c.ranged32.ensures

@@ -1,0 +1,57 @@
+-- `voice_frame::sound::sound` meets its contract, by whether the voice is enabled and a filter is on. Assumes nothing.
+use mathlib.Core.Path.{◌≡◌, sym, ◌∙◌, subst}
+use native.Mathlib.Omega.{arith}
+use lib.Dec.{T}
+use borrow.Author.Tests.{not-true, not-false}
+use Rattle.lists.proofs.Bools.{cond_yes, cond_no, or_neither}
+use Rattle.filters.specs.Range.{filters_in_range}
+use Rattle.voice.specs.Set.{set_voice_filters, set_voice_frame}
+use Rattle.voice.specs.declared.record.Voice.{Voice}
+use Rattle.voice_frame.specs.VoiceFrame.{filtered, sounding, sounding_lane}
+use Rattle.voice_frame.proofs.Sounding.{filtered_off, played_range, played_most}
+use Rattle.voice_frame.proofs.sound.sound.Goals as goal
+
+pub returns-then-not-v : goal.returns-then-not-v
+unfolding sounding sounding_lane
+returns-then-not-v c =
+    let v = c.args.v in
+    let off = not-true v.enabled c.if-not-v.true in record {
+      record = sym (cond_no _ _ off);
+      lane = sym (cond_no _ _ off);
+    }
+
+pub pass-passed-requires : goal.pass-passed-requires
+pass-passed-requires c =
+    let a = c.args in
+    let e = c.play_frame-played.ensures in record {
+      t = subst (λ (v : Voice). T (filters_in_range v.filters)) (sym e.0)
+          (played_range a.window.now a.base a.v a.lane.now c.requires.well_formed);
+      produced_le_frame_samples = omega (arith, e.1.1, played_most a.window.now a.base a.v a.lane.now);
+    }
+
+pub returns-then-given : goal.returns-then-given
+unfolding sounding sounding_lane filtered
+returns-then-given c =
+    let a = c.args in
+    let e = c.play_frame-played.ensures in
+    let on = not-false a.v.enabled c.if-not-v.false in
+    let w = c.play_frame-played.result.voice in
+    let n = c.play_frame-played.result.produced in
+    let passed : set_voice_frame c.pass-passed.result.frame (set_voice_filters c.pass-passed.result.filters w) ≡ filtered n w =
+    λ i. set_voice_frame (c.pass-passed.ensures.frame i) (set_voice_filters (c.pass-passed.ensures.filters i) w) in record {
+      record = passed ∙ (λ i. filtered (e.1.1 i) (e.0 i)) ∙ sym (cond_yes _ _ on);
+      lane = e.1.0 ∙ sym (cond_yes _ _ on);
+    }
+
+pub returns-else-given : goal.returns-else-given
+unfolding sounding sounding_lane
+returns-else-given c =
+    let a = c.args in
+    let e = c.play_frame-played.ensures in
+    let on = not-false a.v.enabled c.if-not-v.false in
+    let w = c.play_frame-played.result.voice in
+    let off = or_neither w.filters.has_simple w.filters.has_biquad c.if-given.false in record {
+      record = sym (filtered_off c.play_frame-played.result.produced w off.0 off.1) ∙ (λ i. filtered (e.1.1 i) (e.0 i))
+          ∙ sym (cond_yes _ _ on);
+      lane = e.1.0 ∙ sym (cond_yes _ _ on);
+    }
