@@ -16,7 +16,7 @@ unfolding sounding sounding_lane
 returns-then-not-v c =
     let v = c.args.v in
     let off = not-true v.enabled c.if-not-v.true in record {
-      record = sym (cond_no _ _ off);
+      «record» = sym (cond_no _ _ off);
       lane = sym (cond_no _ _ off);
     }
 
@@ -24,9 +24,9 @@ pub pass-passed-requires : goal.pass-passed-requires
 pass-passed-requires c =
     let a = c.args in
     let e = c.play_frame-played.ensures in record {
-      t = subst (λ (v : Voice). T (filters_in_range v.filters)) (sym e.0)
+      t = subst (λ (v : Voice). T (filters_in_range v.filters)) (sym e.«record»)
           (played_range a.window.now a.base a.v a.lane.now c.requires.well_formed);
-      produced_le_frame_samples = omega (arith, e.1.1, played_most a.window.now a.base a.v a.lane.now);
+      produced_le_frame_samples = omega (arith, e.produced, played_most a.window.now a.base a.v a.lane.now);
     }
 
 pub returns-then-given : goal.returns-then-given
@@ -39,8 +39,8 @@ returns-then-given c =
     let n = c.play_frame-played.result.produced in
     let passed : set_voice_frame c.pass-passed.result.frame (set_voice_filters c.pass-passed.result.filters w) ≡ filtered n w =
     λ i. set_voice_frame (c.pass-passed.ensures.frame i) (set_voice_filters (c.pass-passed.ensures.filters i) w) in record {
-      record = passed ∙ (λ i. filtered (e.1.1 i) (e.0 i)) ∙ sym (cond_yes _ _ on);
-      lane = e.1.0 ∙ sym (cond_yes _ _ on);
+      «record» = passed ∙ (λ i. filtered (e.produced i) (e.«record» i)) ∙ sym (cond_yes _ _ on);
+      lane = e.lane ∙ sym (cond_yes _ _ on);
     }
 
 pub returns-else-given : goal.returns-else-given
@@ -51,7 +51,7 @@ returns-else-given c =
     let on = not-false a.v.enabled c.if-not-v.false in
     let w = c.play_frame-played.result.voice in
     let off = or_neither w.filters.has_simple w.filters.has_biquad c.if-given.false in record {
-      record = sym (filtered_off c.play_frame-played.result.produced w off.0 off.1) ∙ (λ i. filtered (e.1.1 i) (e.0 i))
+      «record» = sym (filtered_off c.play_frame-played.result.produced w off.0 off.1) ∙ (λ i. filtered (e.produced i) (e.«record» i))
           ∙ sym (cond_yes _ _ on);
-      lane = e.1.0 ∙ sym (cond_yes _ _ on);
+      lane = e.lane ∙ sym (cond_yes _ _ on);
     }
