@@ -146,7 +146,8 @@ module _ (window : List ℕ) (base : ℕ) where
   abbrev pub made_of : Midst → Frame
   made_of m = record { voice = ended m; lane = m.lane; produced = length m.samples; dequeues = m.dequeues }
 
-  pub played_silent : (v : Voice) (lane : List ℤ) → is_silent v ≡ true → played window base v lane ≡ silent_frame window base (opened v) lane
+  pub played_silent : (v : Voice) (lane : List ℤ) → is_silent v ≡ true
+      → played window base v lane ≡ silent_frame window base (opened v) lane
   unfolding played
   played_silent v lane e = cond_yes _ _ e
 
@@ -178,7 +179,8 @@ module _ (window : List ℕ) (base : ℕ) where
   unfolding dequeued opened
   frame_dequeues P v lane place s e h =
       let found : (dequeued window base (opened v)).found ≡ true = ap (λ (f : Found). (dequeued_by window base f (opened v)).found) e in
-      let is : (dequeued window base (opened v)).voice ≡ prepared_voice window base (entry_at place v) (ready window base place (opened v)) =
+      let is : (dequeued window base (opened v)).voice
+      ≡ prepared_voice window base (entry_at place v) (ready window base place (opened v)) =
       ap (λ (f : Found). (dequeued_by window base f (opened v)).voice) e in
       subst P (sym (played_silent v lane s))
       (silent_by P (opened v) lane

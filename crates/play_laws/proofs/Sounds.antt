@@ -54,7 +54,8 @@ history_signed h t [] = t
 history_signed h t (c ∷ codes) =
     history_signed (after sample_of h c) (and_yes _ (decoded_sample h c) ∙ (and_both (signed 16 h.yn1) (signed 16 h.yn2) t).0) codes
 
-pub decoded_signed : (cs : List ℤ) (h : History) (bytes : List ℕ) (n : ℕ) → every (signed 16) (decoded_samples sample_of cs h bytes n) ≡ true
+pub decoded_signed : (cs : List ℤ) (h : History) (bytes : List ℕ) (n : ℕ)
+    → every (signed 16) (decoded_samples sample_of cs h bytes n) ≡ true
 decoded_signed cs h bytes n = samples_signed h (take n (codes_of (frames_of n) cs bytes))
 
 pub decoded_history_lem : (h : History) → history_in_range h ≡ true → (cs : List ℤ) (bytes : List ℕ) (n : ℕ)

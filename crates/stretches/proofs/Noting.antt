@@ -24,8 +24,8 @@ use Rattle.steps.specs.Stretch.{after, Walked}
 use Rattle.steps.proofs.Whole.{after_remaining, after_zero}
 use Rattle.track.specs.declared.Track.{Track}
 use Rattle.stretches.specs.Source.{sample_by, sample_in, is_mono, sound_by}
-use Rattle.stretches.specs.Stored.{stored, stored_at, Within, blended, run_at, here_at, next_at, pair_at, blended_at, pair_blend, sides_blend}
-use Rattle.stretches.specs.Stored.{noted_at, sound_after, all_zero}
+use Rattle.stretches.specs.Stored.{stored, stored_at, Within, blended, run_at, here_at, next_at, pair_at, blended_at, pair_blend}
+use Rattle.stretches.specs.Stored.{sides_blend, noted_at, sound_after, all_zero}
 use Rattle.stretches.proofs.Storing.{stored_same, found}
 
 -- ---- both sides alike

@@ -10,4 +10,5 @@ returns c =
     let a = c.args in
     c.blend_sides.ensures
     ∙ sides_between a.lane.now a.bytes.now a.e a.places.now a.fractions.now a.output a.count a.frame.now
-    (omega (arith, c.requires.count_bound)) _ _ _ _ (search rules) c.fetch_sides.ensures.here_after (search rules) c.fetch_sides.ensures.next_after
+    (omega (arith, c.requires.count_bound)) _ _ _ _ (search rules) c.fetch_sides.ensures.here_after (search rules)
+    c.fetch_sides.ensures.next_after
