@@ -11,8 +11,8 @@ serve-served-requires c =
     let lengths = c.requires in record {
       well_formed = w;
       lane_len_bound = search rules;
-      bytes_len = lengths.0;
-      coefficients_len = lengths.1.0;
-      mixes_len = lengths.1.1.0;
-      report_len = lengths.1.1.1;
+      bytes_len = lengths.configuration_len;
+      coefficients_len = lengths.coefficients_len;
+      mixes_len = lengths.mixes_len;
+      report_len = lengths.report_len;
     }
