@@ -1,6 +1,7 @@
 // The port's functions under C names, for the comparisons with the Rust. Test only: each takes plain numbers and slices, calls the function
 // that it is named after, and promises nothing of its own. Those on numbers alone go by `yinzhor_number`, a kind and its operands.
 #![tactic(auto)]
+
 ghost use Rattle.std.specs.Prelude.{◌≡◌, ◌+◌, ◌≤◌, length};
 ghost use Rattle.listing.specs.Sizes.{input_room};
 

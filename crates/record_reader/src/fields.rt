@@ -3,8 +3,8 @@ ghost use Rattle.std.specs.Prelude.{◌≡◌, length};
 
 use crate::entries::format_of;
 use crate::filtering::filters_of;
-use crate::singles::singles_at;
 use crate::parts::{code, half, on, word};
+use crate::singles::singles_at;
 use adpcm::History;
 use numbers::whole::to_signed16;
 use voice::record::{Interpolation, Kinds, Voice};

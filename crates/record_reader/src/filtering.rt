@@ -1,8 +1,8 @@
 // The record's filters.
 ghost use Rattle.std.specs.Prelude.{◌≡◌, length};
 
-use crate::singles::signed_at;
 use crate::parts::on;
+use crate::singles::signed_at;
 use filters::state::{BiquadFilter, Filters, SimpleFilter};
 
 fn biquad_of(bytes: &[u8]) -> BiquadFilter

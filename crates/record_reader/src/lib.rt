@@ -17,6 +17,7 @@
 // An entry has 24 bytes: address, length, play_position: 3 x u32; id: u16; its history: 2 x i16; the format as above; stereo, looping,
 // has_adpcm, from_queue and has_played: marks.
 #![tactic(auto)]
+
 ghost use Rattle.std.specs.Prelude.{◌≡◌, length};
 
 use voice::record::Voice;
@@ -24,8 +25,8 @@ use voice::record::Voice;
 mod entries;
 mod fields;
 mod filtering;
-mod singles;
 mod parts;
+mod singles;
 
 // The record that the bytes hold.
 pub fn record_of(bytes: &[u8]) -> Voice

@@ -1,5 +1,6 @@
 // Test only: puts a record of a voice into its 2,456 bytes; the crate record_reader has their form.
 #![tactic(auto)]
+
 use voice::record::Voice;
 
 mod entries;

@@ -4,6 +4,7 @@
 // 21, keeps record, lane, configuration and status and adds nothing to the mixes. Nothing else is refused: the record must be well-formed
 // for the lane, and the parts of their lengths. What it does is the definition `voice_frame` (specs/VoiceFrame).
 #![tactic(auto)]
+
 pub mod mixes;
 pub mod serve;
 pub mod sound;

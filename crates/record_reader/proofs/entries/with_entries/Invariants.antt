@@ -1,6 +1,5 @@
 -- `record_reader::entries::with_entries` is safe: every place is within. Assumes nothing.
 use Prim.Native.Nat.{◌-◌}
-use borrow.Author.Rules.{rules}
 use Rattle.record_reader.proofs.entries.with_entries.Given as goal
 
 abbrev pub invariant-loop-i : goal.invariant-loop-i

@@ -1,8 +1,7 @@
 -- `record_reader::lists::singles_at` is safe: every place is within. Assumes nothing.
-use mathlib.Core.Path.{◌≡◌, refl}
+use mathlib.Core.Path.{◌≡◌}
 use Prim.Native.Nat.{◌-◌}
 use lib.ListN.{length}
-use borrow.Author.Rules.{rules}
 use Rattle.record_reader.proofs.singles.singles_at.Given as goal
 
 abbrev pub invariant-loop-i : goal.invariant-loop-i

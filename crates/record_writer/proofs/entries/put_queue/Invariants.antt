@@ -1,6 +1,5 @@
 -- `record_writer::entries::put_queue` is safe: every place is within. Assumes nothing.
 use Prim.Native.Nat.{◌-◌}
-use borrow.Author.Rules.{rules}
 use Rattle.record_writer.proofs.entries.put_queue.Given as goal
 
 abbrev pub invariant-loop-i : goal.invariant-loop-i

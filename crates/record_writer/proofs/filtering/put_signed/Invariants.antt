@@ -1,6 +1,5 @@
 -- `record_writer::filtering::put_signed` is safe: every place is within. Assumes nothing.
 use Prim.Native.Nat.{◌-◌}
-use borrow.Author.Rules.{rules}
 use Rattle.record_writer.proofs.filtering.put_signed.Given as goal
 
 abbrev pub invariant-loop-i : goal.invariant-loop-i

@@ -1,8 +1,7 @@
 -- `record_writer::parts::put_words` is safe: the bytes stay as many. Assumes nothing.
-use mathlib.Core.Path.{◌≡◌, refl}
+use mathlib.Core.Path.{◌≡◌}
 use Prim.Native.Nat.{◌-◌}
 use lib.ListN.{length}
-use borrow.Author.Rules.{rules}
 use Rattle.record_writer.proofs.parts.put_words.Given as goal
 
 abbrev pub invariant-loop-i : goal.invariant-loop-i

@@ -1,6 +1,5 @@
 -- `record_writer::sound::put_gains` is safe: every place is within. Assumes nothing.
 use Prim.Native.Nat.{◌-◌}
-use borrow.Author.Rules.{rules}
 use Rattle.record_writer.proofs.sound.put_gains.Given as goal
 
 abbrev pub invariant-loop-i : goal.invariant-loop-i

@@ -4,11 +4,7 @@
 use mathlib.Core.Path.{◌≡◌, sym, ap, ◌∙◌, subst}
 use native.Mathlib.Omega.{arith}
 use lib.ListN.{length}
-use lib.IntN.{ℤ}
-use mathlib.Core.List.{List}
-use Prim.Native.Nat.{ℕ}
 use Rattle.voice.specs.Malformed.{WellFormed}
-use Rattle.voice.specs.declared.record.Voice.{Voice}
 use Rattle.voice.proofs.Formed.{not_malformed_formed, formed_not_malformed}
 use Rattle.settings.specs.Dirty.{dirty_in}
 use Rattle.config.specs.Parsed.{configured}
