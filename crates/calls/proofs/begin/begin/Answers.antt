@@ -9,6 +9,6 @@ pub returns : goal.returns
 unfolding beginning
 returns c =
     let read = c.current_region-read.ensures ∙ (λ j. chosen (c.read16.ensures j) (c.read16-2.ensures j)) in record {
-      turn = λ j. record { c.before.before = eqb (read j) 1; refused = c.none.ensures j };
+      turn = λ j. record { second = eqb (read j) 1; refused = c.none.ensures j };
       mixes = c.silence.ensures;
     }

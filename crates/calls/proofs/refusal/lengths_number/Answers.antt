@@ -1,6 +1,5 @@
 -- `calls::refusal::lengths_number` meets its contract: each return is one case of the tests. Assumes nothing.
-use mathlib.Core.Bool.{false}
-use mathlib.Core.Logic.{⊎_elim}
+use mathlib.Core.Bool.{true, false}
 use mathlib.Core.Path.{◌≡◌, sym, ◌∙◌}
 use native.Mathlib.Omega.{arith}
 use Rattle.layout.specs.Places.{layout_number}
@@ -10,55 +9,67 @@ use Rattle.stems.specs.Call.{Lengths, wrong_voices}
 use Rattle.calls.specs.Begin.{lengths_of}
 use Rattle.calls.proofs.Numbers.{by_layout, by_window, by_voices, by_mixes, none}
 use Rattle.calls.proofs.Numbers.{wrong_records, wrong_lanes, by_length}
-use Rattle.calls.proofs.refusal.lengths_number.Tie as tie
+use Rattle.lists.proofs.Bools.{not_no, not_yes}
+use borrow.Author.Tests.{eq-eqb, ne_eqb, lt-ltb, le-ltb}
 use Rattle.calls.proofs.refusal.lengths_number.Goals as goal
-
-abbrev lent : tie.Start → Lengths
-lent s = lengths_of s.args.records s.args.region0 s.args.region1 s.args.window s.args.lanes
-
--- the layout's number is 0, and the window's
-placed :
-    (c : tie.Else-places-ne0)
-    → layout_number (lent c.before.before.before).region0 (lent c.before.before.before).region1 c.args.fixed.layout ≡ 0
-placed c = sym c.layout_number-places.ensures ∙ c.if-places-ne0.false
-
-near : (c : tie.Else-room-ne0) → window_number c.args.fixed.base (lent c.before.before.before.before.before).window ≡ 0
-near c = sym c.window_number-room.ensures ∙ c.if-room-ne0.false
-
--- records and lanes as they must be
-right :
-    (c : tie.Else-lane-gt-MOST)
-    → wrong_voices (lent c.before.before.before.before.before.before.before.before).records (lent c.before.before.before.before.before.before.before.before).lanes ≡ false
-unfolding lane_length
-right c =
-    by_length c.args.records c.args.lanes c.if-records-ne-VOICES.false c.if-lanes-lane.false-raw ∙ c.if-lane-gt-MOST.false-raw
+use Rattle.calls.proofs.refusal.lengths_number.Goals.{then-records-ne-VOICES-via-then-records-ne-VOICES}
+use Rattle.calls.proofs.refusal.lengths_number.Goals.{then-records-ne-VOICES-via-else-records-ne-VOICES+then-lanes-lane}
+use Rattle.calls.proofs.refusal.lengths_number.Goals.{then-records-ne-VOICES-via-else-records-ne-VOICES+else-lanes-lane+then-lane-gt-MOST}
 
 pub returns-then-places-ne0 : goal.returns-then-places-ne0
 returns-then-places-ne0 c =
+    let a = c.args in
     let e = c.layout_number-places.ensures in
-    e ∙ sym (by_layout c.args.fixed (lent c.before.before.before) c.args.mixes (λ z. c.if-places-ne0.true (e ∙ z)))
+    e ∙ sym (by_layout a.fixed (lengths_of a.records a.region0 a.region1 a.window a.lanes) a.mixes (λ z. c.if-places-ne0.true (e ∙ z)))
 
 pub returns-then-room-ne0 : goal.returns-then-room-ne0
 returns-then-room-ne0 c =
+    let a = c.args in
     let e = c.window_number-room.ensures in
-    e ∙ sym (by_window c.args.fixed (lent c.before.before.before.before.before) c.args.mixes (placed c.before.before) (λ z. c.if-room-ne0.true (e ∙ z)))
+    let placed = sym c.layout_number-places.ensures ∙ c.if-places-ne0.false in
+    e
+    ∙ sym
+    (by_window a.fixed (lengths_of a.records a.region0 a.region1 a.window a.lanes) a.mixes placed (λ z. c.if-room-ne0.true (e ∙ z)))
 
 pub returns-then-records-ne-VOICES : goal.returns-then-records-ne-VOICES
 unfolding lane_length
 returns-then-records-ne-VOICES c =
-    let records = c.args.records in
-    let lanes = c.args.lanes in
-    let wrong = ⊎_elim (λ t. wrong_records records lanes t.taken)
-    (⊎_elim (λ t. wrong_lanes records lanes t.0.left t.1.taken)
-    (λ t. by_length records lanes t.0.left t.1.left ∙ t.2.taken)) c.then-records-ne-VOICES.branch in
-    sym (by_voices c.args.fixed (lent c.before.before.before.before.before.before) c.args.mixes (placed c.before.before.before) (near c.before) wrong)
+    let a = c.args in
+    let placed = sym c.layout_number-places.ensures ∙ c.if-places-ne0.false in
+    let near = sym c.window_number-room.ensures ∙ c.if-room-ne0.false in
+    let wrong : wrong_voices a.records a.lanes ≡ true =
+        elim c.then-records-ne-VOICES.branch [
+          then-records-ne-VOICES-via-then-records-ne-VOICES w ↦ wrong_records a.records a.lanes w.if-records-ne-VOICES.true
+          | then-records-ne-VOICES-via-else-records-ne-VOICES+then-lanes-lane w ↦
+              wrong_lanes a.records a.lanes w.if-records-ne-VOICES.false (not_no (ne_eqb _ _ w.if-lanes-lane.true))
+          | then-records-ne-VOICES-via-else-records-ne-VOICES+else-lanes-lane+then-lane-gt-MOST w ↦
+              by_length a.records a.lanes w.if-records-ne-VOICES.false (not_yes (eq-eqb _ _ w.if-lanes-lane.false))
+              ∙ lt-ltb _ _ w.if-lane-gt-MOST.true
+        ] in
+    sym (by_voices a.fixed (lengths_of a.records a.region0 a.region1 a.window a.lanes) a.mixes placed near wrong)
 
 pub returns-then-mixes-ne-MIXES : goal.returns-then-mixes-ne-MIXES
+unfolding lane_length
 returns-then-mixes-ne-MIXES c =
-    let other = by_mixes c.args.fixed (lent c.before.before.before.before.before.before.before.before.before) c.args.mixes (placed c.before.before.before.before.before.before) (near c.before.before.before.before) (right c.before) in
-    sym (other (λ z. omega (arith, z, c.if-mixes-ne-MIXES.true)))
+    let a = c.args in
+    let placed = sym c.layout_number-places.ensures ∙ c.if-places-ne0.false in
+    let near = sym c.window_number-room.ensures ∙ c.if-room-ne0.false in
+    let right : wrong_voices a.records a.lanes ≡ false =
+        by_length a.records a.lanes c.if-records-ne-VOICES.false (not_yes (eq-eqb _ _ c.if-lanes-lane.false))
+        ∙ le-ltb _ _ c.if-lane-gt-MOST.false in
+    sym
+    (by_mixes a.fixed (lengths_of a.records a.region0 a.region1 a.window a.lanes) a.mixes placed near right
+    (λ z. omega (arith, z, c.if-mixes-ne-MIXES.true)))
 
 pub returns : goal.returns
+unfolding lane_length
 returns c =
-    let all = none c.args.fixed (lent c.before.before.before.before.before.before.before.before.before) c.args.mixes (placed c.before.before.before.before.before.before) (near c.before.before.before.before) (right c.before) in
-    sym (all (omega (arith, c.if-mixes-ne-MIXES.false)))
+    let a = c.args in
+    let placed = sym c.layout_number-places.ensures ∙ c.if-places-ne0.false in
+    let near = sym c.window_number-room.ensures ∙ c.if-room-ne0.false in
+    let right : wrong_voices a.records a.lanes ≡ false =
+        by_length a.records a.lanes c.if-records-ne-VOICES.false (not_yes (eq-eqb _ _ c.if-lanes-lane.false))
+        ∙ le-ltb _ _ c.if-lane-gt-MOST.false in
+    sym
+    (none a.fixed (lengths_of a.records a.region0 a.region1 a.window a.lanes) a.mixes placed near right
+    (omega (arith, c.if-mixes-ne-MIXES.false)))
