@@ -1,9 +1,5 @@
 -- `run_voice::main` is safe and ends: the turns that are left fall. Assumes nothing.
-use native.Mathlib.Omega.{arith}
 use Rattle.run_voice.proofs.main.Given as goal
 
-abbrev pub invariant-loop-turns : goal.invariant-loop-turns
-invariant-loop-turns l = Unit {0}
-
 abbrev pub decreases-loop-turns : goal.decreases-loop-turns
-decreases-loop-turns l = l.initial.turns
+decreases-loop-turns l = l.turns
