@@ -84,9 +84,8 @@ module _ (fx : Fixed) (r0 r1 w : List ℕ) (ys : List Voice) (lanes mixes : List
         },
       )
 
-  pub refused_call : (r : Returned) (k : ℕ) → k ≡ code → T (not (eqb k 0)) → r ≡ returned k (listed []) → Leaves r ys r0 r1 lanes mixes
-  refused_call r k is held e =
-      let not0 : k ≡ 0 → ⊥ = some_number k held in
+  pub refused_call : (r : Returned) (k : ℕ) → k ≡ code → (k ≡ 0 → ⊥) → r ≡ returned k (listed []) → Leaves r ys r0 r1 lanes mixes
+  refused_call r k is not0 e =
       refused_with k (number_is ∙ first_not_0 code (cond bad 7 0) (λ z. not0 (is ∙ z)) ∙ sym is) not0 r e
 
   pub malformed_call : (r : Returned) → code ≡ 0 → bad ≡ true → r ≡ returned 7 (listed []) → Leaves r ys r0 r1 lanes mixes
