@@ -95,15 +95,13 @@ module _ (fx : Fixed) (v : ℕ) (r0 r1 w : List ℕ) (ys : List Voice) (lanes mi
         ap (λ (a : Returned). a.refused) e ∙ ap listed (sym (none_refused (alone_number fx v x) fx v x not-0)),
       )
 
-  pub refused_call : (r : Returned) (k : ℕ) → k ≡ code → T (not (eqb k 0)) → r ≡ returned k (listed []) → Leaves r ys r0 r1 lanes mixes
-  refused_call r k is held e =
-      let not0 : k ≡ 0 → ⊥ = some_number k held in
+  pub refused_call : (r : Returned) (k : ℕ) → k ≡ code → (k ≡ 0 → ⊥) → r ≡ returned k (listed []) → Leaves r ys r0 r1 lanes mixes
+  refused_call r k is not0 e =
       refused_with k (number_is ∙ first_not_0 code late (λ z. not0 (is ∙ z)) ∙ sym is) not0 r e
 
-  pub late_call : (r : Returned) (k : ℕ) → code ≡ 0 → k ≡ late → T (not (eqb k 0)) → r ≡ returned k (listed [])
+  pub late_call : (r : Returned) (k : ℕ) → code ≡ 0 → k ≡ late → (k ≡ 0 → ⊥) → r ≡ returned k (listed [])
       → Leaves r ys r0 r1 lanes mixes
-  late_call r k zero_is is held e =
-      refused_with k (number_is ∙ ap (λ (n : ℕ). or_else n late) zero_is ∙ sym is) (some_number k held) r e
+  late_call r k zero_is is not0 e = refused_with k (number_is ∙ ap (λ (n : ℕ). or_else n late) zero_is ∙ sym is) not0 r e
 
   -- ---- served
 
