@@ -3,6 +3,7 @@
 // it chooses the region to be read, sets the mixes to 0 and gives that voice its turn: the mixes then hold what it adds. A voice that is
 // refused, by 20 or 21, keeps what is its own, adds nothing, and is the list that the call gives back. What is another voice's stays.
 #![tactic(auto)]
+
 ghost use Rattle.calls.specs.Lent.{lent};
 ghost use Rattle.alone.specs.TickVoice.{Ensured};
 

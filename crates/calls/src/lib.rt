@@ -2,6 +2,7 @@
 // record and 10 of a voice's number (`refusal`); how a call begins, with the region chosen and the mixes at 0, and what it carries from
 // voice to voice (`begin`); and the list of refused voices that it gives back (`refused`). The calls are in `voices` and `alone`.
 #![tactic(auto)]
+
 pub mod begin;
 pub mod refusal;
 pub mod refused;

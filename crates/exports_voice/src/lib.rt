@@ -1,6 +1,7 @@
 // What the oracle asks of a voice whose record stands in bytes, under C names. Test only: each calls the function of voice_jobs or of
 // frame_jobs that it is named after, and promises nothing of its own.
 #![tactic(auto)]
+
 ghost use Rattle.std.specs.Prelude.{◌≡◌, ◌≤◌, length};
 
 #[unsafe(no_mangle)]

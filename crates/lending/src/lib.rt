@@ -2,6 +2,7 @@
 // and code over an array by value is covered, where code over a lent slice of records is not. `frame` and `stem` lend the first so many,
 // and refuse nothing of their own.
 #![tactic(auto)]
+
 ghost use Rattle.std.specs.Prelude.{◌++◌, ◌≡◌, ◌≤◌, take, drop};
 ghost use Rattle.stems.specs.Call.{whole_number, alone_number};
 ghost use Rattle.calls.specs.Lent.{lent};

@@ -2,6 +2,7 @@
 // is taken out, handed by value to `voice_turn` or `calls`, and put back; all else is theirs. Both functions rely on what the calls have
 // tested.
 #![tactic(auto)]
+
 ghost use Rattle.std.specs.Prelude.{◌≡◌, ◌<◌, ◌≤◌, length, set, get_or};
 ghost use Rattle.lists.specs.Some.{some};
 ghost use Rattle.stems.specs.Memory.{VOICES, lane_length};

@@ -3,6 +3,7 @@
 // the region to be read, sets the mixes to 0 and gives each voice its turn; a voice that is refused, by 20 or 21, keeps what is its own,
 // adds nothing and goes into the list that the call gives back.
 #![tactic(auto)]
+
 ghost use Rattle.std.specs.Prelude.{◌≡◌, ℕ, ◌<◌, length};
 ghost use Rattle.stems.specs.Memory.{VOICES, lane_length};
 ghost use Rattle.calls.specs.Begin.{Fitting};

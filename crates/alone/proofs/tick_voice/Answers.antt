@@ -37,9 +37,9 @@ serve_at-turn-requires c =
     let a = c.args in
     let b = c.begin-start in
     let g = goes_on a.fixed a.voice a.region0.now a.region1.now a.window.now a.voices.now a.lanes.now a.mixes.now
-        (sym c.lengths_number-number.ensures ∙ c.if-number-ne0.false)
-        (sym (late_is _ _ _ _ c.any_malformed-bad.ensures c.alone_number-late.ensures) ∙ c.if-late-ne0.false)
-        b.new.mixes b.auto.mixes in
+    (sym c.lengths_number-number.ensures ∙ c.if-number-ne0.false)
+    (sym (late_is _ _ _ _ c.any_malformed-bad.ensures c.alone_number-late.ensures) ∙ c.if-late-ne0.false)
+    b.new.mixes b.auto.mixes in
     (g.0, g.1, subst (λ (t : Turn). t.refused.count ≤ a.voice) (sym b.ensures.turn) g.2, g.3, g.4)
 
 pub returns : goal.returns
@@ -50,21 +50,21 @@ returns c =
     let e = s.ensures in
     -- the turn began with no mix value and no voice refused
     let begun : serve_one a.fixed a.window.now a.voice (record {
-              voices = a.voices.now;
-              region0 = a.region0.now;
-              region1 = a.region1.now;
-              lanes = a.lanes.now;
-              mixes = b.new.mixes;
-              turn = b.result;
-            }) ≡ _ =
-        λ j. serve_one a.fixed a.window.now a.voice (record {
-          voices = a.voices.now;
-          region0 = a.region0.now;
-          region1 = a.region1.now;
-          lanes = a.lanes.now;
-          mixes = b.ensures.mixes j;
-          turn = b.ensures.turn j;
-        }) in
+      voices = a.voices.now;
+      region0 = a.region0.now;
+      region1 = a.region1.now;
+      lanes = a.lanes.now;
+      mixes = b.new.mixes;
+      turn = b.result;
+    }) ≡ _ =
+    λ j. serve_one a.fixed a.window.now a.voice (record {
+      voices = a.voices.now;
+      region0 = a.region0.now;
+      region1 = a.region1.now;
+      lanes = a.lanes.now;
+      mixes = b.ensures.mixes j;
+      turn = b.ensures.turn j;
+    }) in
     served_call a.fixed a.voice a.region0.now a.region1.now a.window.now a.voices.now a.lanes.now a.mixes.now
     (sym c.lengths_number-number.ensures ∙ c.if-number-ne0.false)
     (sym (late_is _ _ _ _ c.any_malformed-bad.ensures c.alone_number-late.ensures) ∙ c.if-late-ne0.false)

@@ -16,10 +16,10 @@ loop-i-preserved c =
     let e = c.serve_at-turn.ensures in
     let n = c.serve_at-turn.new in
     let so_far : ℕ → State = λ k.
-        ticked a.fixed a.window.now k a.voices.now a.region0.now a.region1.now a.lanes.now a.mixes.now a.start in
+    ticked a.fixed a.window.now k a.voices.now a.region0.now a.region1.now a.lanes.now a.mixes.now a.start in
     let turned : state n.voices n.region0 n.region1 n.lanes n.mixes c.serve_at-turn.result
-            ≡ serve_one a.fixed a.window.now l.i (state l.voices l.region0 l.region1 l.lanes l.mixes l.turn) =
-        λ j. state (e.1 j) (e.2 j) (e.3 j) (e.4 j) (e.5 j) (e.0 j) in record {
+    ≡ serve_one a.fixed a.window.now l.i (state l.voices l.region0 l.region1 l.lanes l.mixes l.turn) =
+    λ j. state (e.1 j) (e.2 j) (e.3 j) (e.4 j) (e.5 j) (e.0 j) in record {
       seen = omega (arith, c.serve_at-turn.auto.voices);
       served = turned ∙ ap (serve_one a.fixed a.window.now l.i) l.invariant.served ∙ ap so_far (sym (add-one l.i));
       counted =

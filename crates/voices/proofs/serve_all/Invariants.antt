@@ -30,7 +30,7 @@ invariant-loop-i l = record {
   long :
       (j : ℕ) → j < l.i
       → LongAt l.fixed l.window j
-      (ticked l.fixed l.window j l.initial.voices l.initial.region0 l.initial.region1 l.initial.lanes l.initial.mixes l.initial.turn)
+      (ticked l.fixed l.window j l.initial.voices l.initial.region0 l.initial.region1 l.initial.lanes l.initial.mixes l.initial.turn);
 }
 
 abbrev pub decreases-loop-i : goal.decreases-loop-i

@@ -32,8 +32,8 @@ serve_all-turn-requires c =
     let a = c.args in
     let b = c.begin-start in
     let g = goes_on a.fixed a.region0.now a.region1.now a.window.now a.voices.now a.lanes.now a.mixes.now
-        (sym c.lengths_number-number.ensures ∙ c.if-number-ne0.false) (sym c.any_malformed-bad.ensures ∙ c.if-bad.false)
-        b.new.mixes b.auto.mixes in
+    (sym c.lengths_number-number.ensures ∙ c.if-number-ne0.false) (sym c.any_malformed-bad.ensures ∙ c.if-bad.false)
+    b.new.mixes b.auto.mixes in
     (g.0, ap (λ (t : Turn). t.refused.count) b.ensures.turn ∙ g.1, g.2, g.3)
 
 pub returns : goal.returns
@@ -44,7 +44,7 @@ returns c =
     let e = s.ensures in
     -- the loop began with no mix value and no voice refused
     let begun : (k : ℕ) → ticked a.fixed a.window.now k a.voices.now a.region0.now a.region1.now a.lanes.now b.new.mixes b.result ≡ _ =
-        λ k j. ticked a.fixed a.window.now k a.voices.now a.region0.now a.region1.now a.lanes.now (b.ensures.mixes j) (b.ensures.turn j) in
+    λ k j. ticked a.fixed a.window.now k a.voices.now a.region0.now a.region1.now a.lanes.now (b.ensures.mixes j) (b.ensures.turn j) in
     let last = begun (length a.voices.now) in
     served_call a.fixed a.region0.now a.region1.now a.window.now a.voices.now a.lanes.now a.mixes.now
     (sym c.lengths_number-number.ensures ∙ c.if-number-ne0.false) (sym c.any_malformed-bad.ensures ∙ c.if-bad.false)

@@ -38,14 +38,14 @@ returns-then-records-ne-VOICES c =
     let placed = sym c.layout_number-places.ensures ∙ c.if-places-ne0.false in
     let near = sym c.window_number-room.ensures ∙ c.if-room-ne0.false in
     let wrong : wrong_voices a.records a.lanes ≡ true =
-        elim c.then-records-ne-VOICES.branch [
-          then-records-ne-VOICES-via-then-records-ne-VOICES w ↦ wrong_records a.records a.lanes w.if-records-ne-VOICES.true
-          | then-records-ne-VOICES-via-else-records-ne-VOICES+then-lanes-lane w ↦
-              wrong_lanes a.records a.lanes w.if-records-ne-VOICES.false (not_no (ne_eqb _ _ w.if-lanes-lane.true))
-          | then-records-ne-VOICES-via-else-records-ne-VOICES+else-lanes-lane+then-lane-gt-MOST w ↦
-              by_length a.records a.lanes w.if-records-ne-VOICES.false (not_yes (eq-eqb _ _ w.if-lanes-lane.false))
-              ∙ lt-ltb _ _ w.if-lane-gt-MOST.true
-        ] in
+    elim c.then-records-ne-VOICES.branch [
+      | then-records-ne-VOICES-via-then-records-ne-VOICES w ↦ wrong_records a.records a.lanes w.if-records-ne-VOICES.true
+      | then-records-ne-VOICES-via-else-records-ne-VOICES+then-lanes-lane w ↦
+          wrong_lanes a.records a.lanes w.if-records-ne-VOICES.false (not_no (ne_eqb _ _ w.if-lanes-lane.true))
+      | then-records-ne-VOICES-via-else-records-ne-VOICES+else-lanes-lane+then-lane-gt-MOST w ↦
+          by_length a.records a.lanes w.if-records-ne-VOICES.false (not_yes (eq-eqb _ _ w.if-lanes-lane.false))
+          ∙ lt-ltb _ _ w.if-lane-gt-MOST.true
+    ] in
     sym (by_voices a.fixed (lengths_of a.records a.region0 a.region1 a.window a.lanes) a.mixes placed near wrong)
 
 pub returns-then-mixes-ne-MIXES : goal.returns-then-mixes-ne-MIXES
@@ -55,8 +55,8 @@ returns-then-mixes-ne-MIXES c =
     let placed = sym c.layout_number-places.ensures ∙ c.if-places-ne0.false in
     let near = sym c.window_number-room.ensures ∙ c.if-room-ne0.false in
     let right : wrong_voices a.records a.lanes ≡ false =
-        by_length a.records a.lanes c.if-records-ne-VOICES.false (not_yes (eq-eqb _ _ c.if-lanes-lane.false))
-        ∙ le-ltb _ _ c.if-lane-gt-MOST.false in
+    by_length a.records a.lanes c.if-records-ne-VOICES.false (not_yes (eq-eqb _ _ c.if-lanes-lane.false))
+    ∙ le-ltb _ _ c.if-lane-gt-MOST.false in
     sym
     (by_mixes a.fixed (lengths_of a.records a.region0 a.region1 a.window a.lanes) a.mixes placed near right
     (λ z. omega (arith, z, c.if-mixes-ne-MIXES.true)))
@@ -68,8 +68,8 @@ returns c =
     let placed = sym c.layout_number-places.ensures ∙ c.if-places-ne0.false in
     let near = sym c.window_number-room.ensures ∙ c.if-room-ne0.false in
     let right : wrong_voices a.records a.lanes ≡ false =
-        by_length a.records a.lanes c.if-records-ne-VOICES.false (not_yes (eq-eqb _ _ c.if-lanes-lane.false))
-        ∙ le-ltb _ _ c.if-lane-gt-MOST.false in
+    by_length a.records a.lanes c.if-records-ne-VOICES.false (not_yes (eq-eqb _ _ c.if-lanes-lane.false))
+    ∙ le-ltb _ _ c.if-lane-gt-MOST.false in
     sym
     (none a.fixed (lengths_of a.records a.region0 a.region1 a.window a.lanes) a.mixes placed near right
     (omega (arith, c.if-mixes-ne-MIXES.false)))

@@ -30,33 +30,33 @@ returns c =
     let a = c.args in
     -- where the two ways meet
     let m : Follows a.v a.i a.turn a.fixed a.region0.now a.region1.now a.window.now a.lanes.now a.mixes.now
-            c.if-turn.done c.if-turn.region0 c.if-turn.region1 c.if-turn.lanes c.if-turn.mixes =
-        elim c.if-turn.branch [
-          then-turn w ↦
-              let e = w.serve_in-done.ensures in
-              second_read_lem a.v a.i a.turn a.fixed a.region0.now a.region1.now a.window.now a.lanes.now a.mixes.now w.if-turn.true
-              (record {
-                number = ap (λ (s : Served). s.number) w.done-is ∙ e.number;
-                voice = ap (λ (s : Served). s.voice) w.done-is ∙ e.«record»;
-                in0 = w.region0-is ∙ e.other;
-                in1 = w.region1-is ∙ e.read;
-                in_lanes = w.lanes-is ∙ e.lanes;
-                in_mixes = w.mixes-is ∙ e.mixes;
-                long = e.long;
-              })
-          | else-turn w ↦
-              let e = w.serve_in-done-else-turn.ensures in
-              first_read a.v a.i a.turn a.fixed a.region0.now a.region1.now a.window.now a.lanes.now a.mixes.now w.if-turn.false
-              (record {
-                number = ap (λ (s : Served). s.number) w.done-is ∙ e.number;
-                voice = ap (λ (s : Served). s.voice) w.done-is ∙ e.«record»;
-                in0 = w.region0-is ∙ e.read;
-                in1 = w.region1-is ∙ e.other;
-                in_lanes = w.lanes-is ∙ e.lanes;
-                in_mixes = w.mixes-is ∙ e.mixes;
-                long = e.long;
-              })
-        ] in
+    c.if-turn.done c.if-turn.region0 c.if-turn.region1 c.if-turn.lanes c.if-turn.mixes =
+    elim c.if-turn.branch [
+      | then-turn w ↦
+          let e = w.serve_in-done.ensures in
+          second_read_lem a.v a.i a.turn a.fixed a.region0.now a.region1.now a.window.now a.lanes.now a.mixes.now w.if-turn.true
+          (record {
+            number = ap (λ (s : Served). s.number) w.done-is ∙ e.number;
+            voice = ap (λ (s : Served). s.voice) w.done-is ∙ e.«record»;
+            in0 = w.region0-is ∙ e.other;
+            in1 = w.region1-is ∙ e.read;
+            in_lanes = w.lanes-is ∙ e.lanes;
+            in_mixes = w.mixes-is ∙ e.mixes;
+            long = e.long;
+          })
+      | else-turn w ↦
+          let e = w.serve_in-done-else-turn.ensures in
+          first_read a.v a.i a.turn a.fixed a.region0.now a.region1.now a.window.now a.lanes.now a.mixes.now w.if-turn.false
+          (record {
+            number = ap (λ (s : Served). s.number) w.done-is ∙ e.number;
+            voice = ap (λ (s : Served). s.voice) w.done-is ∙ e.«record»;
+            in0 = w.region0-is ∙ e.read;
+            in1 = w.region1-is ∙ e.other;
+            in_lanes = w.lanes-is ∙ e.lanes;
+            in_mixes = w.mixes-is ∙ e.mixes;
+            long = e.long;
+          })
+    ] in
     let h = c.hand_on.ensures in record {
       result = m.taken c.hand_on.result h.«record» h.second h.refused;
       region0 = m.in0;
