@@ -1,11 +1,11 @@
 -- The call's contract on each of its three ways: refused by its lengths, refused for a record or for the voice's number, and served, where
 -- one turn is one voice served. Assumes nothing.
 use mathlib.Core.Path.{◌≡◌, refl, sym, ap, ◌∙◌, subst}
-use mathlib.Core.Bool.{Bool, false, not, cond}
+use mathlib.Core.Bool.{Bool, false, cond}
 use mathlib.Core.List.{List, [], ◌∷◌}
 use Prim.Native.Nat.{ℕ, zero, suc, ◌<◌, ◌≤◌, zero-le}
 use native.Mathlib.Omega.{arith}
-use lib.Dec.{T, eqb, ltb, lit<}
+use lib.Dec.{ltb, lit<}
 use lib.IntN.{ℤ}
 use lib.ListN.{length, get_or}
 use borrow.Author.Tests.{ltb-false}
@@ -29,7 +29,7 @@ use Rattle.calls.specs.declared.refused.Returned.{Returned}
 use Rattle.calls.specs.declared.begin.Turn.{Turn}
 use Rattle.calls.proofs.Listed.{listed_after}
 use Rattle.turns.specs.Turns.{State, serve_one}
-use Rattle.turns.proofs.Begun.{first_not_0, some_number, each_formed, all_voices_lem, still_fitting}
+use Rattle.turns.proofs.Begun.{first_not_0, each_formed, all_voices_lem, still_fitting}
 use Rattle.turns.proofs.Turns.{memory_of, turn_memory, turn_mixes, turn_carried}
 use Rattle.alone.specs.TickVoice.{left, refused, Ensured}
 

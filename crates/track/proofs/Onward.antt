@@ -1,5 +1,5 @@
 -- One stretch of an entry after another is one stretch, and a single sample is one: the cursors, the frame, and that something remains on
--- the way. By `after-add` of steps. Assumes nothing.
+-- the way. By `after_add` of steps. Assumes nothing.
 use mathlib.Core.Path.{◌≡◌, refl, sym, ap, ◌∙◌, subst}
 use mathlib.Core.Logic.{◌⊎◌, inl, inr, ⊎_elim}
 use mathlib.Core.List.{List}

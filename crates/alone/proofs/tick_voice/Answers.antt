@@ -1,6 +1,6 @@
 -- `alone::tick_voice` meets its contract on each of its three ways: refused by its lengths, refused for a record or for its voice's number,
 -- and served. Assumes nothing.
-use Rattle.std.proofs.Common.{◌≡◌, ℕ, ◌≤◌, Bool, cond, List, length, ltb, sym, ap, ◌∙◌, subst}
+use Rattle.std.proofs.Common.{◌≡◌, ℕ, ◌≤◌, Bool, cond, ltb, sym, ap, ◌∙◌, subst}
 use Rattle.stems.specs.Call.{or_else}
 use Rattle.calls.specs.declared.begin.Turn.{Turn}
 use Rattle.turns.specs.Turns.{State, serve_one}

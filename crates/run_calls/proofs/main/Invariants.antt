@@ -1,5 +1,4 @@
 -- `run_calls::main` is safe and ends: the turns that are left fall. Assumes nothing.
-use borrow.Author.Rules.{rules}
 use Rattle.run_calls.proofs.main.Given as goal
 
 abbrev pub decreases-loop-turns : goal.decreases-loop-turns

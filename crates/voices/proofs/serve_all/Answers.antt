@@ -1,5 +1,5 @@
 -- `voices::serve_all` meets its contract: one turn of the loop is one voice served. Assumes nothing.
-use Rattle.std.proofs.Common.{◌≡◌, ℕ, suc, ◌≤◌, ◌<◌, ◌+◌, List, length, get_or, add-one, sym, ap, ◌∙◌, subst, arith}
+use Rattle.std.proofs.Common.{◌≡◌, ℕ, ◌≤◌, ◌+◌, List, get_or, add-one, sym, ap, ◌∙◌, subst, arith}
 use Rattle.voice.specs.Blank.{default_voice}
 use Rattle.voice.specs.declared.record.Voice.{Voice}
 use Rattle.calls.specs.declared.begin.Turn.{Turn}

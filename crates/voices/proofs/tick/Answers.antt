@@ -1,6 +1,5 @@
 -- `voices::tick` meets its contract on each of its three ways: refused by its lengths, refused for a record, and served. Assumes nothing.
-use Rattle.std.proofs.Common.{◌≡◌, ℕ, ◌<◌, false, List, length, sym, ap, ◌∙◌, subst}
-use Rattle.calls.specs.Refused.{listed}
+use Rattle.std.proofs.Common.{◌≡◌, ℕ, false, length, sym, ap, ◌∙◌, subst}
 use Rattle.calls.specs.declared.begin.Turn.{Turn}
 use Rattle.turns.specs.Turns.{State, LongAt}
 use Rattle.turns.proofs.Begun.{begins}

@@ -2,10 +2,8 @@
 use mathlib.Core.Bool.{true, false}
 use mathlib.Core.Path.{◌≡◌, sym, ◌∙◌}
 use native.Mathlib.Omega.{arith}
-use Rattle.layout.specs.Places.{layout_number}
-use Rattle.window.specs.Window.{window_number}
 use Rattle.stems.specs.Memory.{lane_length}
-use Rattle.stems.specs.Call.{Lengths, wrong_voices}
+use Rattle.stems.specs.Call.{wrong_voices}
 use Rattle.calls.specs.Begin.{lengths_of}
 use Rattle.calls.proofs.Numbers.{by_layout, by_window, by_voices, by_mixes, none}
 use Rattle.calls.proofs.Numbers.{wrong_records, wrong_lanes, by_length}

@@ -1,8 +1,6 @@
 -- `run_calls::bytes::fill` is safe and ends: what is left to read falls. Assumes nothing.
-use mathlib.Core.Path.{◌≡◌}
 use Prim.Native.Nat.{◌-◌, ◌≤◌}
 use lib.ListN.{length}
-use borrow.Author.Rules.{rules}
 use Rattle.run_calls.proofs.bytes.fill.Given as goal
 
 abbrev pub invariant-loop-done : goal.invariant-loop-done

@@ -1,6 +1,5 @@
 -- `run_calls::jobs::reason` is safe: every place is within. Assumes nothing.
 use Prim.Native.Nat.{◌-◌}
-use borrow.Author.Rules.{rules}
 use Rattle.run_calls.proofs.jobs.reason.Given as goal
 
 abbrev pub invariant-loop-i : goal.invariant-loop-i

@@ -1,7 +1,6 @@
 -- `run_calls::voice_calls::repeat` is safe and ends: the calls that are left fall. Assumes nothing.
 use mathlib.Core.Path.{◌≡◌}
 use lib.ListN.{length}
-use borrow.Author.Rules.{rules}
 use Rattle.run_calls.proofs.voice_calls.repeat.Given as goal
 
 abbrev pub invariant-loop-left : goal.invariant-loop-left

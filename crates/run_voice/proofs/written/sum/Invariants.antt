@@ -1,7 +1,6 @@
 -- `run_voice::written::sum` is safe: the total has 32 bits. Assumes nothing.
 use Prim.Native.Nat.{◌-◌, ◌<◌}
 use lib.ListN.{length}
-use borrow.Author.Rules.{rules}
 use Rattle.run_voice.proofs.written.sum.Given as goal
 
 abbrev pub invariant-loop-i : goal.invariant-loop-i

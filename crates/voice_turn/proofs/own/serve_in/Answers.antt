@@ -1,20 +1,19 @@
 -- `voice_turn::own::serve_in` meets its contract: what is lent to the voice's frame is the voice's own in memory, and what comes back is
 -- put where it stood. Assumes nothing.
-use mathlib.Core.Path.{◌≡◌, sym, ap, ◌∙◌, subst}
+use mathlib.Core.Path.{sym, ap, ◌∙◌, subst}
 use mathlib.Core.Bool.{false}
 use mathlib.Core.List.{List}
 use Prim.Native.Nat.{ℕ, ◌+◌, ◌-◌, ◌*◌}
 use native.Mathlib.Omega.{arith}
-use lib.IntN.{ℤ}
 use lib.ListN.{length, take, drop}
-use Rattle.fields.specs.Fields.{configuration, status, total}
+use Rattle.fields.specs.Fields.{configuration, status}
 use Rattle.lists.proofs.Splice.{length_part, lent_long}
 use Rattle.layout.specs.declared.Layout.{Layout}
 use Rattle.voice.specs.Malformed.{WellFormed}
-use Rattle.voice_frame.specs.VoiceFrame.{fed, voice_frame, Answer, number_of, voice_after, lane_after}
+use Rattle.voice_frame.specs.VoiceFrame.{voice_frame, Answer, number_of, voice_after, lane_after}
 use Rattle.voice_frame.specs.VoiceFrame.{configuration_after, status_after, mixes_after}
 use Rattle.stems.specs.Memory.{lane_length}
-use Rattle.voice_turn.specs.Turn.{Room, answer_to}
+use Rattle.voice_turn.specs.Turn.{answer_to}
 use Rattle.voice_turn.proofs.Back.{answer_is, long, lanes_back, read_back, other_back}
 use borrow.Author.Rules.{rules}
 use Rattle.voice_turn.proofs.own.serve_in.Goals as goal

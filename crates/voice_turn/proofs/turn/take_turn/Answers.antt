@@ -1,7 +1,7 @@
 -- `voice_turn::turn::take_turn` meets its contract: the region that is chosen is read, so what the frame answered by the two regions in the
 -- order of their use is what the voice is answered by regions 0 and 1. Assumes nothing.
 use mathlib.Core.Logic.{⊎_elim}
-use mathlib.Core.Path.{◌≡◌, ap, ◌∙◌}
+use mathlib.Core.Path.{ap, ◌∙◌}
 use lib.ListN.{length}
 use Rattle.voice_turn.proofs.Rooms.{room0, room1}
 use Rattle.voice_frame.specs.declared.serve.Served.{Served}
