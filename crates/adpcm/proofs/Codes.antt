@@ -4,16 +4,16 @@ use mathlib.Core.Path.{◌≡◌, refl, sym, ap, ◌∙◌}
 use mathlib.Core.List.{List, [], ◌∷◌, ◌++◌, append-nil}
 use mathlib.Core.Logic.{⊎_elim}
 use Prim.Native.Nat.{ℕ, zero, suc, min, ◌+◌, ◌-◌, ◌*◌, ◌/◌, ◌%◌, ◌≤◌, ◌<◌}
-use native.Mathlib.Nat.{le_of_eq, le_of_suc-le-suc, not-suc-le-zero}
+use native.Mathlib.Nat.{add_comm, le_of_eq, le_of_suc-le-suc, not-suc-le-zero}
 use native.Mathlib.Numerals.{add-one}
 use native.Mathlib.Omega.{arith}
 use lib.IntN.{ℤ, pos}
-use lib.ListN.{length, take, drop, get_or, length-append, length-drop, length-map}
-use lib.Seq.{length-take-le, take_all, take-append-le, take-append-add, get_or-drop}
+use lib.ListN.{length, take, drop, get_or, length-append, length-drop, length-map, get_or-map}
+use lib.Seq.{length-take-le, take_all, take-append-le, take-append-add, get_or-take, get_or-drop}
 use Rattle.lists.proofs.Walk.{below_or}
 use Rattle.adpcm.specs.declared.History.{History}
-use Rattle.adpcm.specs.Code.{Code, first_nibble, second_nibble, nibbles, codes_by, frame_codes, codes_of, frames_of, after, samples_of}
-use Rattle.adpcm.specs.Code.{history_after, decoded_samples, decoded_history}
+use Rattle.adpcm.specs.Code.{Code, first_nibble, second_nibble, nibbles, code, codes_by, frame_codes, codes_of, frames_of, after}
+use Rattle.adpcm.specs.Code.{samples_of, history_after, decoded_samples, decoded_history}
 
 -- ---- nibbles
 
@@ -64,6 +64,32 @@ frame_long cs frame h = codes_by_long _ _ _ frame h
 
 pub taken_long : (codes : List Code) (n : ℕ) → length codes ≡ 14 → n ≤ 14 → length (take n codes) ≡ n
 taken_long codes n e h = length-take-le n codes (omega arith)
+
+-- among a frame's first n codes, the two of the byte at an index past the header
+module _ (e : ℕ) (c1 c2 : ℤ) (frame : List ℕ) (n i : ℕ) (l : length frame ≡ 8) (m : n ≤ 14) where
+  at_index :
+      (k b : ℕ) → k < n → get_or (nibbles (drop 1 frame)) k 0 ≡ b
+      → code e c1 c2 b ≡ get_or (take n (codes_by e c1 c2 frame)) k (code e c1 c2 0)
+  at_index k b h q =
+      ap (code e c1 c2) (sym q)
+      ∙ sym (get_or-take n (codes_by e c1 c2 frame) k (code e c1 c2 0) h ∙ get_or-map (code e c1 c2) (nibbles (drop 1 frame)) k 0)
+
+  pub code_first :
+      i * 2 < n → code e c1 c2 (first_nibble (get_or frame (i + 1) 0)) ≡ get_or (take n (codes_by e c1 c2 frame)) (i * 2) (code e c1 c2 0)
+  code_first h = at_index (i * 2) _ h (nibble_even (drop 1 frame) (i * 2) i refl (simp length-drop (omega arith)) ∙ ap first_nibble there)
+    where
+      there : get_or (drop 1 frame) i 0 ≡ get_or frame (i + 1) 0
+      there = get_or-drop 1 frame i 0 ∙ ap (λ (k : ℕ). get_or frame k 0) (add_comm 1 i)
+
+  pub code_second :
+      i * 2 + 1 < n
+      → code e c1 c2 (second_nibble (get_or frame (i + 1) 0)) ≡ get_or (take n (codes_by e c1 c2 frame)) (i * 2 + 1) (code e c1 c2 0)
+  code_second h =
+      at_index (i * 2 + 1) _ h
+      (nibble_odd (drop 1 frame) (i * 2 + 1) i (omega arith) (simp length-drop (omega arith)) ∙ ap second_nibble there)
+    where
+      there : get_or (drop 1 frame) i 0 ≡ get_or frame (i + 1) 0
+      there = get_or-drop 1 frame i 0 ∙ ap (λ (k : ℕ). get_or frame k 0) (add_comm 1 i)
 
 pub codes_long : (f : ℕ) (cs : List ℤ) (bytes : List ℕ) → f * 8 ≤ length bytes → length (codes_of f cs bytes) ≡ f * 14
 codes_long zero cs bytes h = refl

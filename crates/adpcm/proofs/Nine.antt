@@ -12,7 +12,7 @@ use lib.ListN.{length}
 use borrow.Author.Tests.{lt-ltb, le-ltb, eq-eqb, ne_eqb}
 use Rattle.lists.proofs.Bools.{or_no, or_yes, not_yes, not_no, cond_yes, cond_no}
 use Rattle.lists.proofs.Walk.{below_or}
-use Rattle.adpcm.specs.declared.Decoded.{Decoded}
+use Rattle.adpcm.specs.Decoded.{Decoded}
 use Rattle.adpcm.specs.Code.{frames_of}
 use Rattle.adpcm.specs.Adpcm.{refused}
 use Rattle.adpcm.specs.Nine.{WholeFrames, Refusable, NineExactlyIf}

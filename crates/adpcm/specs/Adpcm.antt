@@ -6,7 +6,7 @@ use Rattle.numbers.specs.Wrap.{wrap32, clamp16}
 use Rattle.adpcm.specs.Sizes.{frame_bytes, most_samples}
 use Rattle.adpcm.specs.Code.{Code, sum_of, frames_of, decoded_samples, decoded_history}
 use Rattle.adpcm.specs.declared.History.{History}
-use Rattle.adpcm.specs.declared.Decoded.{Decoded}
+use Rattle.adpcm.specs.Decoded.{Decoded}
 
 -- the sample of a sum: "the shift right by 11 rounds toward minus infinity; clamp to 16 bits"
 abbrev pub scaled_down : ℤ → ℤ

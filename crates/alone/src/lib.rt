@@ -4,15 +4,62 @@
 // refused, by 20 or 21, keeps what is its own, adds nothing, and is the list that the call gives back. What is another voice's stays.
 #![tactic(auto)]
 
+ghost use Rattle.std.specs.Prelude.{◌≡◌, ◌<◌, length, get_or};
+ghost use Rattle.numbers.specs.Sizes.{MIXES};
+ghost use Rattle.stems.specs.Memory.{VOICES, lane_length};
+ghost use Rattle.voice.specs.Blank.{default_voice};
+ghost use Rattle.voice.specs.Malformed.{WellFormed};
+ghost use Rattle.calls.specs.Begin.{Fitting, second_of};
 ghost use Rattle.calls.specs.Lent.{lent};
+ghost use Rattle.calls.specs.Refused.{refusals_of};
+ghost use Rattle.alone.specs.Inner.{ticked};
 ghost use Rattle.alone.specs.TickVoice.{Ensured};
 
-use calls::begin::{begin, finish};
-use calls::refusal::{alone_number, lengths_number};
-use calls::refused::{Returned, refuse};
+use calls::begin::begin;
+use calls::refusal::{accept_alone, accept_lengths};
+use calls::refused::{Refused, note};
+use numbers::sizes::MIXES;
+use refusals::Refusal;
 use stems::Fixed;
-use turns::{any_malformed, serve_at};
+use turns::serve_at;
 use voice::record::Voice;
+
+// Begins the call, and gives this voice its turn.
+fn serve_alone(
+    voices: &mut [Voice],
+    voice: usize,
+    fixed: Fixed,
+    region0: &mut [u8],
+    region1: &mut [u8],
+    window: &[u8],
+    lanes: &mut [i16],
+    mixes: &mut [i32; MIXES],
+) -> Refused
+    requires lent { voice < length voices.old }
+    requires a_voice { voice < VOICES }
+    requires well_formed { WellFormed (lane_length (length lanes.old)) (get_or voices.old voice default_voice) }
+    requires fitting { Fitting fixed (length region0.old) (length region1.old) (length window.now) (length lanes.old) MIXES }
+    ensures refused { refusals_of result.items ≡ (ticked fixed window.now (second_of fixed region0.old region1.old) voice
+        voices.old region0.old region1.old lanes.old).refused }
+    ensures voices { voices.new ≡ (ticked fixed window.now (second_of fixed region0.old region1.old) voice
+        voices.old region0.old region1.old lanes.old).voices }
+    ensures region0 { region0.new ≡ (ticked fixed window.now (second_of fixed region0.old region1.old) voice
+        voices.old region0.old region1.old lanes.old).region0 }
+    ensures region1 { region1.new ≡ (ticked fixed window.now (second_of fixed region0.old region1.old) voice
+        voices.old region0.old region1.old lanes.old).region1 }
+    ensures lanes { lanes.new ≡ (ticked fixed window.now (second_of fixed region0.old region1.old) voice
+        voices.old region0.old region1.old lanes.old).lanes }
+    ensures mixes { mixes.new ≡ (ticked fixed window.now (second_of fixed region0.old region1.old) voice
+        voices.old region0.old region1.old lanes.old).mixes }
+{
+    let read = begin(fixed, region0, region1, mixes);
+    let outcome = serve_at(
+        voices, voice, read, fixed, region0, region1, window, lanes, mixes,
+    );
+    let mut refused = Refused::new();
+    note(&mut refused, voice, outcome);
+    refused
+}
 
 // Serves one frame of one voice. `fixed` is what every call of a run is handed alike.
 pub fn tick_voice(
@@ -24,13 +71,13 @@ pub fn tick_voice(
     window: &[u8],
     lanes: &mut [i16],
     mixes: &mut [i32],
-) -> Returned
+) -> Result<Refused, Refusal>
     ensures { Ensured fixed voice (lent region0.old region1.old window.now
         voices.old lanes.old mixes.old)
         result (lent region0.new region1.new window.now
         voices.new lanes.new mixes.new) }
 {
-    let number = lengths_number(
+    accept_lengths(
         fixed,
         voices.len(),
         region0.len(),
@@ -38,18 +85,8 @@ pub fn tick_voice(
         window.len(),
         lanes.len(),
         mixes.len(),
-    );
-    if number != 0 {
-        return refuse(number);
-    }
-    let bad = any_malformed(voices, lanes.len());
-    let late = alone_number(bad, voice);
-    if late != 0 {
-        return refuse(late);
-    }
-    let start = begin(fixed, region0, region1, mixes);
-    let turn = serve_at(
-        voices, voice, start, fixed, region0, region1, window, lanes, mixes,
-    );
-    finish(turn)
+    )?;
+    accept_alone(voices, lanes.len(), voice)?;
+    let mixes = mixes.as_mut_array::<MIXES>().unwrap();
+    Ok(serve_alone(voices, voice, fixed, region0, region1, window, lanes, mixes))
 }

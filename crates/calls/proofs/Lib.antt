@@ -1,2 +1,2 @@
-pub mod Listed
+pub mod Noted
 pub mod Numbers

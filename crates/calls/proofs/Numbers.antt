@@ -1,12 +1,16 @@
 -- The number of a call as a whole, by which test is the first that applies. Each test is put at its value in the chain. Assumes nothing.
-use mathlib.Core.Path.{◌≡◌, refl, ap, ◌∙◌}
+use mathlib.Core.Path.{◌≡◌, refl, sym, ap, ◌∙◌}
 use mathlib.Core.Bool.{true, false, not, ◌||◌}
 use mathlib.Core.List.{[], ◌∷◌}
 use Prim.Native.Nat.{ℕ, zero, suc, ◌*◌}
+use native.Mathlib.Omega.{arith}
 use lib.Dec.{eqb, ltb}
 use borrow.Author.Tests.{eq-eqb, ne_eqb}
 use Rattle.lists.specs.Lowest.{rule, lowest}
 use Rattle.lists.proofs.Bools.{or_no, or_yes, cond_yes, cond_no, not_yes, not_no}
+use Rattle.refusals.specs.declared.Refusal.{Refusal as Reason}
+use Rattle.refusals.specs.Numbers.{number}
+use Rattle.refusals.proofs.Numbers.{positive}
 use Rattle.layout.specs.Places.{layout_number}
 use Rattle.window.specs.Window.{window_number}
 use Rattle.numbers.specs.Sizes.{MIXES}
@@ -35,13 +39,14 @@ module _ (fx : Fixed) (s : Lengths) (mixes : ℕ) where
   abbrev rest : ℕ
   rest = lowest (rule (wrong_voices s.records s.lanes) 5 ∷ rule (not (eqb mixes MIXES)) 6 ∷ [])
 
-  pub by_layout : (places ≡ 0 → ⊥) → whole ≡ places
+  pub by_layout : (e : Reason) → number e ≡ places → number e ≡ whole
   unfolding lengths_number
-  by_layout h = first_one places (or_else far rest) h
+  by_layout e is = is ∙ sym (first_one places (or_else far rest) (λ z. omega (arith, positive e, is, z)))
 
-  pub by_window : places ≡ 0 → (far ≡ 0 → ⊥) → whole ≡ far
+  pub by_window : places ≡ 0 → (e : Reason) → number e ≡ far → number e ≡ whole
   unfolding lengths_number
-  by_window e h = next_one places (or_else far rest) e ∙ first_one far rest h
+  by_window p e is =
+      is ∙ sym (next_one places (or_else far rest) p ∙ first_one far rest (λ z. omega (arith, positive e, is, z)))
 
   further : places ≡ 0 → far ≡ 0 → whole ≡ rest
   unfolding lengths_number

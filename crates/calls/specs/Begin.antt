@@ -1,13 +1,13 @@
 -- How a call begins that is not refused, and what it may then rely on. Inner definitions: the call's contract does not name them. Assumes
 -- nothing: these are definitions.
-use Rattle.std.specs.Prelude.{◌≡◌, ℕ, ◌+◌, ◌≤◌, List, [], eqb}
+use Rattle.std.specs.Prelude.{◌≡◌, ℕ, ◌+◌, ◌≤◌, Bool, true, false, List, eqb}
 use Rattle.little.specs.Little.{at16}
 use Rattle.region.specs.Choice.{chosen}
+use Rattle.region.specs.declared.Region.{Region}
+use Rattle.region.specs.declared.Region.TheVariants.{Zero, One}
 use Rattle.stems.specs.Memory.{VOICES}
 use Rattle.stems.specs.Call.{Lengths, lengths_number}
 use Rattle.stems.specs.declared.Fixed.{Fixed}
-use Rattle.calls.specs.Refused.{listed}
-use Rattle.calls.specs.declared.begin.Turn.{Turn}
 
 -- how much of each thing is lent
 abbrev pub lengths_of : ℕ → ℕ → ℕ → ℕ → ℕ → Lengths
@@ -32,8 +32,11 @@ pub record Counted (fx : Fixed) (region0 region1 : ℕ) : Type 0 where
   pub in0 : fx.layout.frame_counter + 2 ≤ region0
   pub in1 : fx.layout.frame_counter + 2 ≤ region1
 
-unfoldable pub beginning : Fixed → List ℕ → List ℕ → Turn
-beginning fx region0 region1 = record {
-  second = eqb (chosen (at16 region0 fx.layout.frame_counter) (at16 region1 fx.layout.frame_counter)) 1;
-  refused = listed [];
-}
+-- region 1
+abbrev pub is_second : Region → Bool
+is_second Zero = false
+is_second One = true
+
+-- region 1 is read, by the two frame counters, and not region 0
+unfoldable pub second_of : Fixed → List ℕ → List ℕ → Bool
+second_of fx region0 region1 = eqb (chosen (at16 region0 fx.layout.frame_counter) (at16 region1 fx.layout.frame_counter)) 1

@@ -1,23 +1,25 @@
-// The numbers of a call as a whole.
-ghost use Rattle.std.specs.Prelude.{◌||◌, cond, ◌≡◌, ltb};
+// What refuses a call as a whole.
+ghost use Rattle.std.specs.List.{list_any};
+ghost use Rattle.std.specs.Prelude.{◌≡◌, cond, ltb};
+ghost use Rattle.refusals.specs.Numbers.{number_of};
+ghost use Rattle.lists.specs.Some.{some};
 ghost use Rattle.stems.specs.Call.{or_else, lengths_number};
 ghost use Rattle.stems.specs.Memory.{lane_length};
 ghost use Rattle.voice.specs.Malformed.{malformed};
 ghost use Rattle.calls.specs.Begin.{lengths_of};
 
 use crate::refused::VOICES;
-use layout::layout_number;
 use numbers::sizes::MIXES;
+use refusals::Refusal;
 use stems::Fixed;
 use voice::malformed::malformed;
 use voice::record::Voice;
-use window::window_number;
 
 // The most samples of a lane.
 const MOST: usize = 65536;
 
-// The lowest of 1 to 6 that applies, by how much of each thing is lent, or 0.
-pub fn lengths_number(
+// Refuses, by the lowest of 1 to 6 that applies, a call that is lent so much of each thing.
+pub fn accept_lengths(
     fixed: Fixed,
     records: usize,
     region0: usize,
@@ -25,47 +27,45 @@ pub fn lengths_number(
     window: usize,
     lanes: usize,
     mixes: usize,
-) -> u8
-    ensures { result ≡ lengths_number fixed (lengths_of records region0 region1 window lanes) mixes }
+) -> Result<(), Refusal>
+    ensures { number_of result ≡ lengths_number fixed (lengths_of records region0 region1 window lanes) mixes }
 {
-    let l = fixed.layout;
-    let places = layout_number(region0, region1, l);
-    if places != 0 {
-        return places;
-    }
-    let room = window_number(fixed.base, window);
-    if room != 0 {
-        return room;
-    }
+    layout::accept(region0, region1, fixed.layout)?;
+    window::accept(fixed.base, window)?;
     let lane = lanes / VOICES;
     if records != VOICES || lanes != VOICES * lane || lane > MOST {
-        return 5;
+        return Err(Refusal::RecordsOrLanes);
     }
     if mixes != MIXES {
-        return 6;
+        return Err(Refusal::MixLength);
     }
-    0
+    Ok(())
 }
 
-// Whether a record before was malformed, or this one is for lanes of so many samples together: number 7.
-pub fn worse(bad: bool, v: Voice, lanes: usize) -> bool
-    ensures { result ≡ (bad || malformed (lane_length lanes) v) }
+// Whether one of these records is malformed, for a lane of so many samples.
+fn any_malformed(records: &[Voice], lane: usize) -> bool
+    ensures { result ≡ list_any (malformed lane) records.now }
 {
-    if bad {
-        return true;
-    }
-    malformed(v, lanes / VOICES)
+    records.iter().any(|v| malformed(*v, lane))
 }
 
-// The lower of 7, where a record is malformed, and 10, where there is no voice of this number; or 0.
-pub fn alone_number(bad: bool, voice: usize) -> u8
-    ensures { result ≡ or_else (cond bad 7 0) (cond (ltb 23 voice) 10 0) }
+// Refuses, by 7, records of which one is malformed, for lanes of so many samples together.
+pub fn accept_records(records: &[Voice], lanes: usize) -> Result<(), Refusal>
+    ensures { number_of result ≡ cond (some (malformed (lane_length lanes)) records.now) 7 0 }
 {
-    if bad {
-        return 7;
+    if any_malformed(records, lanes / VOICES) {
+        return Err(Refusal::Malformed);
     }
+    Ok(())
+}
+
+// Refuses, by the lower of 7 and 10 that applies, records and the number of a voice.
+pub fn accept_alone(records: &[Voice], lanes: usize, voice: usize) -> Result<(), Refusal>
+    ensures { number_of result ≡ or_else (cond (some (malformed (lane_length lanes)) records.now) 7 0) (cond (ltb 23 voice) 10 0) }
+{
+    accept_records(records, lanes)?;
     if voice >= VOICES {
-        return 10;
+        return Err(Refusal::VoiceNumber);
     }
-    0
+    Ok(())
 }

@@ -1,62 +1,49 @@
-// The voices that a call refused, and what a call gives back.
-ghost use Rattle.std.specs.Prelude.{[], ◌≡◌, ◌<◌};
+// The voices that a call refused, which it gives back as a list.
+ghost use Rattle.std.specs.Prelude.{◌≡◌, ◌+◌, ◌≤◌, ◌<◌};
+ghost use Rattle.arrayvec.specs.ArrayVec.{array_vec_len};
+ghost use Rattle.refusals.specs.Numbers.{number_of};
+ghost use Rattle.refusals.specs.declared.Refusal.TheVariants.{QueueFull};
 ghost use Rattle.stems.specs.Memory.{VOICES};
-ghost use Rattle.calls.specs.Refused.{listed, refused_after, returned};
+ghost use Rattle.calls.specs.Refused.{refusals_of, refused_after};
+
+use arrayvec::ArrayVec;
+use refusals::Refusal;
 
 pub const VOICES: usize = 24;
 
-// So many voices, in the order in which they were refused, each with its number at the same place. The places behind them hold 0.
-#[derive(Clone, Copy)]
-pub struct Refused {
-    pub count: usize,
-    pub voices: [u8; VOICES],
-    pub numbers: [u8; VOICES],
+// A voice that was refused, and why.
+#[derive(Clone, Copy, PartialEq, Eq, Debug)]
+pub struct RefusedVoice {
+    pub voice: u8,
+    pub refusal: Refusal,
 }
 
-// What a call gives back: 0, or the number of its refusal, and the voices refused.
-#[derive(Clone, Copy)]
-pub struct Returned {
-    pub number: u8,
-    pub refused: Refused,
-}
+// What stands in the places of a list that hold no voice.
+impl Default for RefusedVoice {
+    ghost is_default = { λ r. (r.voice ≡ 0) × (r.refusal ≡ QueueFull) };
 
-pub fn none() -> Refused
-    ensures { result ≡ listed [] }
-{
-    Refused {
-        count: 0,
-        voices: [0u8; VOICES],
-        numbers: [0u8; VOICES],
+    fn default() -> RefusedVoice {
+        RefusedVoice {
+            voice: 0,
+            refusal: Refusal::QueueFull,
+        }
     }
 }
 
-// The list with a voice's number noted, unless that is 0.
-pub fn note(list: Refused, voice: usize, number: u8) -> Refused
-    requires count_bound { list.count < VOICES }
+// The refused voices, in the order in which they were refused.
+pub type Refused = ArrayVec<RefusedVoice, VOICES>;
+
+// Lists a voice behind the others if its turn refused it.
+pub fn note(refused: &mut Refused, voice: usize, outcome: Result<(), Refusal>)
+    requires room { array_vec_len refused.old < VOICES }
     requires voice_bound { voice < VOICES }
-    ensures { result ≡ refused_after voice number list }
+    ensures few { array_vec_len refused.new ≤ array_vec_len refused.old + 1 }
+    ensures items { refusals_of refused.new.items ≡ refused_after voice (number_of outcome) (refusals_of refused.old.items) }
 {
-    if number == 0 {
-        return list;
-    }
-    let at = list.count;
-    let mut voices = list.voices;
-    let mut numbers = list.numbers;
-    voices[at] = voice as u8;
-    numbers[at] = number;
-    Refused {
-        count: at + 1,
-        voices,
-        numbers,
-    }
-}
-
-// What a call that is refused as a whole gives back.
-pub fn refuse(number: u8) -> Returned
-    ensures { result ≡ returned number (listed []) }
-{
-    Returned {
-        number,
-        refused: none(),
+    if let Err(refusal) = outcome {
+        refused.push(RefusedVoice {
+            voice: voice as u8,
+            refusal,
+        });
     }
 }

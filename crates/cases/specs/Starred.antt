@@ -1,7 +1,7 @@
 -- The starred cases of document 01, "Checked by hand", in its order, and the claim that the definitions agree with every one.
 -- `proofs/Starred.antt` proves the claim. A case is an input with its outcome; another kind of case is one constructor and one line of
 -- `Agrees` more. Assumes nothing.
-use Rattle.std.specs.Prelude.{ℕ, ◌-◌, ◌≡◌, false, List, [], ◌∷◌, ◌++◌, map, length, replicate, Float, ℤ, pos, negsuc}
+use Rattle.std.specs.Prelude.{ℕ, ◌-◌, ◌≡◌, false, List, [], ◌∷◌, ◌++◌, map, length, replicate, Float, ℤ, pos, negsuc, Some}
 use Rattle.std.specs.Float.{fin}
 use Rattle.numbers.specs.Casts.{single}
 use Rattle.mixing.specs.Interpolate.{interpolate}
@@ -17,7 +17,6 @@ use Rattle.voice.specs.Set.{set_entry_id, set_voice_queue, set_voice_queued}
 use Rattle.voice.specs.declared.record.Voice.{Voice}
 use Rattle.queue.specs.Removal.{removed}
 use Rattle.queue.specs.Search.{searched}
-use Rattle.queue.specs.declared.Found.TheVariants.{At}
 
 abbrev history : ℤ → ℤ → History
 history yn1 yn2 = record { yn1 = yn1; yn2 = yn2 }
@@ -64,7 +63,7 @@ Agrees (step coefficients h frame sample published) =
     (decoded_samples sample_of coefficients h frame 1 ≡ sample ∷ []) × (public_samples coefficients h frame 1 ≡ published ∷ [])
 Agrees (between a b fraction sample) = interpolate a b fraction ≡ sample
 Agrees (queued ids place left) =
-    (searched (voice_of ids).queue (voice_of ids).queued ≡ At place) × (map (λ e. e.id) (queued_in (removed place (voice_of ids))) ≡ left)
+    (searched (voice_of ids).queue (voice_of ids).queued ≡ Some place) × (map (λ e. e.id) (queued_in (removed place (voice_of ids))) ≡ left)
 Agrees (rounded n x) = single n ≡ x
 
 abbrev pub starred : List Case

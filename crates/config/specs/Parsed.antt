@@ -7,10 +7,14 @@ use Rattle.voice.specs.declared.record.Voice.{Voice}
 use Rattle.settings.specs.Dirty.{dirty_in, flag, BUFFER_QUEUE}
 use Rattle.settings.specs.Steps.{reset_step, partial_reset_step, enable_step, sync_step, rate_step, interpolation_step, coefficients_step}
 use Rattle.settings.specs.Steps.{gain_step, filters_step, format_step, stereo_step, lengthen_step}
-use Rattle.config.specs.declared.parse.Configured.{Configured}
 use Rattle.entries.specs.Entries.{added}
 use Rattle.queueing.specs.Refusal.{refusal_of}
 use Rattle.queueing.specs.Queue.{pushed_all}
+
+-- what a configuration comes to: 0, or the number of the refusal, and the record
+pub record Configured : Type 0 where
+  pub number : ℕ
+  pub voice : Voice
 
 -- steps taken in turn, the first one first
 abbrev pub in_turn : List (Voice → Voice) → Voice → Voice

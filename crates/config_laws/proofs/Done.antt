@@ -11,6 +11,7 @@ use native.Mathlib.Omega.{arith}
 use lib.Dec.{eqb}
 use lib.ListN.{length, take, get_or, replicate, length-set}
 use lib.Seq.{take-suc-set}
+use Rattle.std.proofs.lemmas.Bool.{false≢true}
 use borrow.Author.Tests.{eqb-true}
 use Rattle.lists.specs.Splice.{splice}
 use Rattle.lists.proofs.Bools.{cond_yes, cond_no, cond_either}
@@ -24,11 +25,11 @@ use Rattle.voice.specs.declared.record.Voice.{Voice}
 use Rattle.voice.proofs.Range.{test_sized}
 use Rattle.settings.specs.Dirty.{dirty_in, flag, BUFFER_QUEUE}
 use Rattle.queueing.specs.Queue.{pushed, pushed_all}
-use Rattle.config.specs.declared.parse.Configured.{Configured}
+use Rattle.config.specs.Parsed.{Configured}
 use Rattle.config.specs.Parsed.{settled, to_add, refusal, parsed, configured, slots_cleared, cleared, bytes_after}
 use Rattle.config_laws.specs.Laws.{mask_at, Cleared, ServedCleared, kept, ServedQueue}
 use Rattle.config_laws.proofs.Kept.{entries_fit}
-use Rattle.config_laws.proofs.Refused.{clash, no_flag, settled_none, none_to_add}
+use Rattle.config_laws.proofs.Refused.{no_flag, settled_none, none_to_add}
 use Rattle.config_laws.proofs.Settled.{settled_queue}
 use Rattle.config_laws.proofs.Sized.{settled_sized}
 
@@ -67,7 +68,7 @@ module _ (bytes cs : List ℕ) (v : Voice) (L : ℕ) where
       by false false p q =
           let is : (configured bytes cs v L).number ≡ refusal bytes cs v L =
           ap (λ (r : Configured). r.number) (cond_no _ _ p ∙ cond_no _ _ q) in
-          absurd (clash (sym q ∙ ap (λ (k : ℕ). eqb k 0) (sym is ∙ n)))
+          absurd (false≢true (sym q ∙ ap (λ (k : ℕ). eqb k 0) (sym is ∙ n)))
 
 -- ---- the bytes
 

@@ -14,7 +14,7 @@ use Rattle.voice.specs.Long.{too_long, any_too_long}
 use Rattle.voice.specs.declared.record.Entry.{Entry}
 use Rattle.voice.specs.declared.record.Voice.{Voice}
 use Rattle.settings.specs.Dirty.{dirty_in}
-use Rattle.config.specs.declared.parse.Configured.{Configured}
+use Rattle.config.specs.Parsed.{Configured}
 use Rattle.config_laws.specs.Laws.{EachKeeps, WholeKeeps}
 use Rattle.config.specs.Parsed.{in_turn, steps, settled, to_add, refusal, parsed, configured}
 use Rattle.queueing.specs.Refusal.{refusal_of}

@@ -8,6 +8,7 @@ use native.Mathlib.Nat.{zero-div}
 use native.Mathlib.Omega.{arith}
 use lib.Dec.{eqb, ltb}
 use lib.ListN.{length}
+use Rattle.std.proofs.lemmas.Bool.{false≢true}
 use borrow.Author.Tests.{ltb-true, ltb-false, le-ltb, eqb-true}
 use Rattle.lists.proofs.Bools.{or_no, cond_yes, cond_no}
 use Rattle.lists.proofs.Some.{some_one, one_some}
@@ -25,7 +26,7 @@ use Rattle.settings.specs.Dirty.{SIMPLE_FILTER, BIQUAD_FILTER, GAIN, SYNC_COUNT,
 use Rattle.settings.specs.Steps.{reset_step, partial_reset_step, enable_step, sync_step, rate_step, interpolation_step, coefficients_step}
 use Rattle.settings.specs.Steps.{gain_step, enabled_filters, simple_filters, biquad_filters, filters_step, format_step, stereo_step}
 use Rattle.settings.specs.Steps.{lengthen_step}
-use Rattle.config.specs.declared.parse.Configured.{Configured}
+use Rattle.config.specs.Parsed.{Configured}
 use Rattle.entries.specs.Entries.{slot_count, embedded_entries, slots_entries, added}
 use Rattle.config_laws.specs.Laws.{Keeps, RefusedUntouched, CleanUnchanged, Longer, Exactly, RefusedExactly, kept}
 use Rattle.config.specs.Parsed.{steps, settled, to_add, refusal, parsed, configured, cleared, bytes_after}
@@ -209,10 +210,6 @@ module _ (L : ℕ) (es : List Entry) where
   longer_asked : Longer L es → any_too_long L es ≡ true
   longer_asked l = one_some (too_long L) l.entry es l.among (is_long L l.entry l.adpcm l.longer)
 
--- a test does not come out both ways
-pub clash : false ≡ true → ⊥
-clash f = let z : ◌≡◌ {A = ℕ} 0 1 = cc in omega arith
-
 module _ (bytes cs : List ℕ) (v : Voice) (L : ℕ) where
   number_is : (dirty_in bytes ≡ 0 → v.queued ≤ limit) → (configured bytes cs v L).number ≡ refusal bytes cs v L
   unfolding configured
@@ -254,7 +251,7 @@ refused_exactly bytes cs v L room = by (ltb limit (queued + length es)) (any_too
         }
     by false false p q e =
         let room : count ≤ limit = omega (arith, ltb-false limit (queued + length es) p, settled_queued bytes v cs) in
-        let short : Longer L es → ⊥ = λ l. clash (sym q ∙ longer_asked L es l) in
+        let short : Longer L es → ⊥ = λ l. false≢true (sym q ∙ longer_asked L es l) in
         record {
           twenty = (λ f. absurd (omega arith), λ h. absurd (omega arith));
           twenty_one = (λ f. absurd (omega arith), λ h. absurd (short h.1));

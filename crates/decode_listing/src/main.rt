@@ -8,7 +8,8 @@ use listing::sizes;
 use std::io;
 use std::io::Read;
 
-// Reads until `buffer` is full or the input ends, and answers how many bytes came, the first of the buffer.
+// Reads until `buffer` is full or the input ends, and answers how many bytes came, the first of the buffer. The buffer is fixed:
+// `read_to_end` reads into a `Vec`, and `read_exact` tells nothing of an input that ends before the buffer is full.
 fn fill<R: Read>(input: &mut R, buffer: &mut [u8]) -> io::Result<usize>
     ensures bound { IfOk result (λ n. n ≤ length buffer.new) }
     ensures bytes { IfOk result (λ n. Consumes (R.remaining input.old) (R.remaining input.new) (take n buffer.new)) }

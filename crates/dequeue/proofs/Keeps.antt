@@ -10,14 +10,13 @@ use native.Mathlib.Omega.{arith}
 use lib.IntN.{ℤ}
 use lib.ListN.{length, get_or, set, drop, length-append, length-drop, length-set}
 use lib.Seq.{get_or-set_same, get_or-set_other}
-use Rattle.lists.proofs.Bools.{cond_either, and_both}
+use Rattle.lists.proofs.Bools.{cond_either}
 use Rattle.lists.proofs.Walk.{below_or}
-use Rattle.window.proofs.Bytes.{there_long}
 use Rattle.adpcm.proofs.Codes.{decoded_long}
 use Rattle.adpcm.specs.Adpcm.{sample_of}
 use Rattle.adpcm.specs.Code.{decoded_samples}
 use Rattle.voice.specs.Blank.{limit, places, blank_entry}
-use Rattle.voice.specs.Long.{is_adpcm, too_long, any_too_long}
+use Rattle.voice.specs.Long.{too_long, any_too_long}
 use Rattle.voice.specs.Malformed.{queued_in, WellFormed}
 use Rattle.voice.specs.declared.record.Entry.{Entry}
 use Rattle.voice.specs.declared.record.Voice.{Voice}
@@ -25,8 +24,7 @@ use Rattle.voice.proofs.Formed.{entries_at, at_entries}
 use Rattle.queue.specs.Played.{mark_played}
 use Rattle.queue.specs.Removal.{removed}
 use Rattle.queue.specs.Search.{searched}
-use Rattle.queue.specs.declared.Found.{Found}
-use Rattle.queue.specs.declared.Found.TheVariants.{At, Nothing}
+use Rattle.std.proofs.Common.{Option, None, Some}
 use Rattle.queue.proofs.Least.{found_queued}
 use Rattle.queue.proofs.Removal.{without_length, without_before, without_next}
 use Rattle.numbers.specs.Literals.{+0}
@@ -35,10 +33,10 @@ use Rattle.numbers.proofs.Literals.{zero_fraction}
 use Rattle.filters.specs.Range.{filters_in_range}
 use Rattle.adpcm.specs.declared.History.{History}
 use Rattle.voice.specs.Set.{set_voice_history, set_voice_queue, set_voice_decoded}
-use Rattle.dequeue.specs.Dequeue.{entry_at, taken, with_history, begun_at, begun, start_of, aligned, bytes_of, decodable, adpcm_in}
+use Rattle.dequeue.specs.Dequeue.{entry_at, taken, with_history, begun_at, begun, start_of, decodable, adpcm_in}
 use Rattle.dequeue.specs.Dequeue.{decoded_voice, decoded_lane}
 use Rattle.dequeue.specs.Dequeue.{prepared_voice, prepared_lane, dequeued_by, lane_by, dequeued, dequeued_lane}
-use Rattle.dequeue.proofs.Laws.{fits_lane}
+use Rattle.dequeue.proofs.Laws.{decodable_fits, decodable_whole}
 
 -- ---- the entry leaves, or is marked
 
@@ -151,17 +149,8 @@ module _ (L : ℕ) (v : Voice) (w : WellFormed L v) (long : length v.queue ≡ p
 
   module _ (window : List ℕ) (base : ℕ) where
     -- the entry fits the lane where it is decoded
-    decodable_fits : decodable window base (entry_at place v) ≡ true → (entry_at place v).length ≤ L
-    unfolding decodable
-    decodable_fits d = fits_lane L (entry_at place v) (entries_at L v w.entries place here) (and_both _ _ d).0
-
-    decodable_whole :
-        decodable window base (entry_at place v) ≡ true
-        → length (adpcm_in window base (entry_at place v)) ≡ bytes_of window base (entry_at place v)
-    unfolding decodable
-    decodable_whole d =
-        there_long window base (aligned (entry_at place v).address) (bytes_of window base (entry_at place v))
-        (and_both (is_adpcm (entry_at place v).format) _ d).1
+    fits : decodable window base (entry_at place v) ≡ true → (entry_at place v).length ≤ L
+    fits = decodable_fits window base (entry_at place v) L (entries_at L v w.entries place here)
 
     prepared_formed : WellFormed L (prepared_voice window base (entry_at place v) (begun (entry_at place v) (taken place v)))
     unfolding prepared_voice decoded_voice
@@ -173,7 +162,7 @@ module _ (L : ℕ) (v : Voice) (w : WellFormed L v) (long : length v.queue ≡ p
         by : (b : Bool) → decodable window base (entry_at place v) ≡ b
             → WellFormed L (cond b (decoded_voice (adpcm_in window base (entry_at place v)) (entry_at place v).length u)
             (set_voice_decoded 0 u))
-        by true d = formed_at u begins (entry_at place v).length (decodable_fits d) _
+        by true d = formed_at u begins (entry_at place v).length (fits d) _
         by false d = formed_at u begins 0 (omega arith) u.history
 
     prepared_places : length (prepared_voice window base (entry_at place v) (begun (entry_at place v) (taken place v))).queue ≡ places
@@ -196,8 +185,8 @@ module _ (L : ℕ) (v : Voice) (w : WellFormed L v) (long : length v.queue ≡ p
         by : (b : Bool) → decodable window base (entry_at place v) ≡ b
             → length (cond b (decoded_lane (adpcm_in window base (entry_at place v)) n u lane) lane) ≡ length lane
         by true d =
-            let made = decoded_long sample_of u.coefficients u.history (adpcm_in window base (entry_at place v)) n (decodable_whole d) in
-            let fits = decodable_fits d in
+            let made = decoded_long sample_of u.coefficients u.history (adpcm_in window base (entry_at place v)) n (decodable_whole window base (entry_at place v) d) in
+            let fit = fits d in
             let samples = decoded_samples sample_of u.coefficients u.history (adpcm_in window base (entry_at place v)) n in
             let all = length-append samples (drop n lane) in
             let left = length-drop n lane in
@@ -211,22 +200,22 @@ module _ (window : List ℕ) (base L : ℕ) (v : Voice) (w : WellFormed L v) (lo
   unfolding dequeued
   dequeued_formed = by (searched v.queue v.queued) refl
     where
-      by : (f : Found) → f ≡ searched v.queue v.queued → WellFormed L (dequeued_by window base f v).voice
-      by Nothing e = w
-      by (At place) e = prepared_formed L v w long place (found_queued v.queue v.queued place e) window base
+      by : (f : Option ℕ) → f ≡ searched v.queue v.queued → WellFormed L (dequeued_by window base f v).voice
+      by None e = w
+      by (Some place) e = prepared_formed L v w long place (found_queued v.queue v.queued place e) window base
 
   pub dequeued_places : length (dequeued window base v).voice.queue ≡ places
   unfolding dequeued
   dequeued_places = by (searched v.queue v.queued) refl
     where
-      by : (f : Found) → f ≡ searched v.queue v.queued → length (dequeued_by window base f v).voice.queue ≡ places
-      by Nothing e = long
-      by (At place) e = prepared_places L v w long place (found_queued v.queue v.queued place e) window base
+      by : (f : Option ℕ) → f ≡ searched v.queue v.queued → length (dequeued_by window base f v).voice.queue ≡ places
+      by None e = long
+      by (Some place) e = prepared_places L v w long place (found_queued v.queue v.queued place e) window base
 
   pub dequeued_lane_long : (lane : List ℤ) → length lane ≡ L → length (dequeued_lane window base v lane) ≡ length lane
   unfolding dequeued_lane
   dequeued_lane_long lane l = by (searched v.queue v.queued) refl
     where
-      by : (f : Found) → f ≡ searched v.queue v.queued → length (lane_by window base f v lane) ≡ length lane
-      by Nothing e = refl
-      by (At place) e = prepared_lane_lem L v w long place (found_queued v.queue v.queued place e) window base lane l
+      by : (f : Option ℕ) → f ≡ searched v.queue v.queued → length (lane_by window base f v lane) ≡ length lane
+      by None e = refl
+      by (Some place) e = prepared_lane_lem L v w long place (found_queued v.queue v.queued place e) window base lane l

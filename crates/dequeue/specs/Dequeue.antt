@@ -1,5 +1,5 @@
 -- The start of the next entry of a voice's queue. Assumes nothing: these are definitions.
-use Rattle.std.specs.Prelude.{Bool, true, false, not, ◌&&◌, cond, List, ◌++◌, ℕ, ◌-◌, ◌*◌, ◌/◌, min, ℤ, length, get_or, set, drop}
+use Rattle.std.specs.Prelude.{Bool, true, false, not, ◌&&◌, cond, List, ◌++◌, ℕ, ◌-◌, ◌*◌, ◌/◌, min, ℤ, length, get_or, set, drop, Option, None, Some}
 use Rattle.numbers.specs.Literals.{+0}
 use Rattle.window.specs.Window.{present_in, look_up}
 use Rattle.adpcm.specs.Sizes.{frame_bytes}
@@ -15,9 +15,11 @@ use Rattle.voice.specs.declared.record.Voice.{Voice}
 use Rattle.queue.specs.Played.{was_played, mark_played}
 use Rattle.queue.specs.Removal.{removed}
 use Rattle.queue.specs.Search.{searched}
-use Rattle.queue.specs.declared.Found.{Found}
-use Rattle.queue.specs.declared.Found.TheVariants.{At, Nothing}
-use Rattle.dequeue.specs.declared.Dequeued.{Dequeued}
+
+-- what a dequeue comes to: the record, and whether an entry was queued
+pub record Dequeued : Type 0 where
+  pub voice : Voice
+  pub found : Bool
 
 -- the entry at a place of the queue
 abbrev pub entry_at : ℕ → Voice → Entry
@@ -92,13 +94,13 @@ module _ (window : List ℕ) (base : ℕ) where
 
   -- ---- "An empty queue is turned away first; the rest works on the entry found"
 
-  abbrev pub dequeued_by : Found → Voice → Dequeued
-  dequeued_by Nothing v = record { voice = v; found = false }
-  dequeued_by (At place) v = record { voice = prepared_voice (entry_at place v) (ready place v); found = true }
+  abbrev pub dequeued_by : Option ℕ → Voice → Dequeued
+  dequeued_by None v = record { voice = v; found = false }
+  dequeued_by (Some place) v = record { voice = prepared_voice (entry_at place v) (ready place v); found = true }
 
-  abbrev pub lane_by : Found → Voice → List ℤ → List ℤ
-  lane_by Nothing v lane = lane
-  lane_by (At place) v lane = prepared_lane (entry_at place v) (ready place v) lane
+  abbrev pub lane_by : Option ℕ → Voice → List ℤ → List ℤ
+  lane_by None v lane = lane
+  lane_by (Some place) v lane = prepared_lane (entry_at place v) (ready place v) lane
 
   -- the record, and whether an entry was queued
   unfoldable pub dequeued : Voice → Dequeued

@@ -1,17 +1,16 @@
 // Of module 7, what a mix adds to the frame. `downmix` takes the frame so far, which it changes, a mix of 640 values, the mixer's state and
 // which of the three mixes it is. Each of the 320 values is rounded step by step in f32 and clamped to 16 bits as the mix's own part, and
-// the sum with the frame's value is clamped again. Nothing is refused: the lengths are required, and the caller makes both.
+// the sum with the frame's value is clamped again. Nothing is refused.
 #![tactic(auto)]
 
-ghost use Rattle.std.specs.Prelude.{◌≡◌, ◌+◌, ◌*◌, ◌<◌, length};
-ghost use Rattle.numbers.specs.Sizes.{FRAME_SAMPLES, FRAME, MIX};
+ghost use Rattle.std.specs.Prelude.{◌≡◌, ◌+◌, ◌*◌, ◌<◌};
+ghost use Rattle.numbers.specs.Sizes.{FRAME_SAMPLES};
 ghost use Rattle.downmix.specs.Downmix.{at_volume, part_of, mono_part, stereo_part, added, part_at, mixed_in, downmixed};
 
 use mixer_state::{Mixer, Output};
 use numbers::casts::{cast_clamped, single_of_i32};
-use numbers::ranged::{ranged16, ranged32};
-use numbers::sizes::FRAME_SAMPLES;
-use numbers::whole::clamped;
+use numbers::ranged::ranged;
+use numbers::sizes::{FRAME, FRAME_SAMPLES, MIX};
 
 // Where channels 1, 2 and 3 of a mix begin.
 const CHANNEL_1: usize = FRAME_SAMPLES;
@@ -56,7 +55,7 @@ pub fn stereo_part(volume: f32, a: i32, c: i32) -> i16
 pub fn added(out: i16, part: i16) -> i16
     ensures { result ≡ added out part }
 {
-    clamped((out as i32) + (part as i32))
+    out.saturating_add(part)
 }
 
 // What a mix adds to the two sides of a sample.
@@ -66,9 +65,8 @@ struct Parts {
     right: i16,
 }
 
-fn parts_of(output: Output, volume: f32, mix: &[i32], i: usize) -> Parts
-    requires mix_len { length mix.now ≡ MIX }
-    requires i_lt_frame_samples { i < FRAME_SAMPLES }
+fn parts_of(output: Output, volume: f32, mix: &[i32; MIX], i: usize) -> Parts
+    requires { i < FRAME_SAMPLES }
     ensures left { result.left ≡ part_at output volume mix.now (i * 2) }
     ensures right { result.right ≡ part_at output volume mix.now (i * 2 + 1) }
 {
@@ -91,37 +89,27 @@ fn parts_of(output: Output, volume: f32, mix: &[i32], i: usize) -> Parts
     }
 }
 
-fn mix_in(frame: &mut [i16], mix: &[i32], volume: f32, output: Output)
-    requires frame_len { length frame.old ≡ FRAME }
-    requires mix_len { length mix.now ≡ MIX }
+// Adds a mix to the frame, a pair a turn: a mono part is computed once for both sides.
+fn mix_in(frame: &mut [i16; FRAME], mix: &[i32; MIX], volume: f32, output: Output)
     ensures { frame.new ≡ mixed_in output volume mix.now frame.old }
 {
-    let mut i = 0;
-    while i < FRAME_SAMPLES {
-        let s = parts_of(output, volume, mix, i);
-        let k = i * 2;
-        let left = added(frame[k], s.left);
-        frame[k] = left;
-        let right = added(frame[k + 1], s.right);
-        frame[k + 1] = right;
-        i += 1;
+    for i in 0..FRAME_SAMPLES {
+        let part = parts_of(output, volume, mix, i);
+        frame[i * 2] = added(frame[i * 2], part.left);
+        frame[i * 2 + 1] = added(frame[i * 2 + 1], part.right);
     }
 }
 
 // Adds mix k to the frame, at its volume. At 0.0 it adds nothing.
-pub fn downmix(frame: &mut [i16], mix: &[i32], state: Mixer, k: usize)
-    requires frame_len { length frame.old ≡ FRAME }
-    requires mix_len { length mix.now ≡ MIX }
-    requires k_bound { k < 3 }
+pub fn downmix(frame: &mut [i16; FRAME], mix: &[i32; MIX], state: Mixer, k: usize)
+    requires { k < 3 }
     ensures { frame.new ≡ downmixed state k mix.now frame.old }
 {
-    let volumes = state.volume;
-    let volume = volumes[k];
-    let output = state.output;
+    let volume = state.volume[k];
     if volume == 0.0 {
-        ranged16(frame);
-        ranged32(mix);
+        ranged(frame);
+        ranged(mix);
         return;
     }
-    mix_in(frame, mix, volume, output);
+    mix_in(frame, mix, volume, state.output);
 }

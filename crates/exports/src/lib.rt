@@ -7,6 +7,8 @@ ghost use Rattle.listing.specs.Sizes.{input_room};
 
 use adpcm::History;
 use listing::sizes::OUTPUT_ROOM;
+use refusals::answered;
+use window::Window;
 
 #[unsafe(no_mangle)]
 pub extern "C" fn yinzhor_number(kind: u32, a: u64, b: u64, c: u64) -> u64 {
@@ -32,12 +34,17 @@ pub extern "C" fn yinzhor_write_dsp32(bytes: &mut [u8], at: usize, value: u32)
 pub extern "C" fn yinzhor_layout_number(first: usize, second: usize, offsets: &[u8]) -> u8
     requires { length offsets.now ≡ 28 }
 {
-    layout::layout_number(first, second, mixer_forms::layout_of(offsets, 0))
+    let l = mixer_forms::layout_of(offsets.as_array().unwrap());
+    answered(layout::accept(first, second, l))
 }
 
 #[unsafe(no_mangle)]
 pub extern "C" fn yinzhor_present(window: &[u8], base: u32, address: u32, count: u32) -> bool {
-    window::present(window, base, address, count)
+    let window = Window {
+        bytes: window,
+        base,
+    };
+    window.present(address, count)
 }
 
 // Copies the part that the look-up hands back to the front of `out`, and answers how long it is.
@@ -49,13 +56,15 @@ pub extern "C" fn yinzhor_physical(
     count: u32,
     out: &mut [u8],
 ) -> usize {
-    let part = window::physical(window, base, address, count);
-    let n = part.len();
-    if n > out.len() {
-        return n;
+    let window = Window {
+        bytes: window,
+        base,
+    };
+    let part = window.physical(address, count);
+    if let Some(front) = out.get_mut(..part.len()) {
+        front.copy_from_slice(part);
     }
-    little::copy(part, &mut out[..n]);
-    n
+    part.len()
 }
 
 #[unsafe(no_mangle)]
@@ -68,17 +77,14 @@ pub extern "C" fn yinzhor_decode_adpcm(
 ) -> u8
     requires { length history.old ≡ 2 }
 {
-    let given = History {
+    let mut last = History {
         yn1: history[0],
         yn2: history[1],
     };
-    let decoded = adpcm::decode_adpcm(data, count, coefficients, given, samples);
-    let last = decoded.history;
-    let yn1 = last.yn1;
-    let yn2 = last.yn2;
-    history[0] = yn1;
-    history[1] = yn2;
-    decoded.number
+    let outcome = adpcm::decode_adpcm(data, count, coefficients, &mut last, samples);
+    history[0] = last.yn1;
+    history[1] = last.yn2;
+    answered(outcome)
 }
 
 #[unsafe(no_mangle)]
@@ -112,12 +118,10 @@ pub extern "C" fn yinzhor_mixer_tick(
     requires state_len { length state.old ≡ 16 }
     requires frame_len { length frame.old ≡ 640 }
 {
-    let given = mixer_forms::state_of(state);
-    let layout = mixer_forms::layout_of(offsets, 0);
-    let mixed = mixer::tick::tick(given, layout, read, first, second, mixes);
-    let samples = mixed.frame;
-    mixer_forms::put_frame(&samples, frame, 0);
-    let after = mixed.mixer;
-    mixer_forms::put_state(after, state, 0);
-    mixed.number
+    let given = mixer_forms::state_of(state.as_array().unwrap());
+    let l = mixer_forms::layout_of(offsets.as_array().unwrap());
+    let mixed = mixer::tick::tick(given, l, read, first, second, mixes);
+    mixer_forms::put_frame(&mixed.frame, frame.as_mut_array().unwrap());
+    mixer_forms::put_state(mixed.mixer, state.as_mut_array().unwrap());
+    answered(mixed.outcome)
 }

@@ -4,49 +4,64 @@
 
 ghost use Rattle.std.specs.Prelude.{◌≡◌, ◌≤◌, length};
 
+use frame_jobs::serving;
+use record_reader::RECORD;
+use refusals::answered;
+use voice_jobs::{filtering, playing};
+use window::Window;
+
 #[unsafe(no_mangle)]
-pub extern "C" fn yinzhor_record(lane: usize, bytes: &mut [u8; 2456]) -> u8 {
-    voice_jobs::configuration::record(lane, bytes)
+pub extern "C" fn yinzhor_record(lane: usize, bytes: &mut [u8; RECORD]) -> u8 {
+    answered(voice_jobs::configuration::record(lane, bytes))
 }
 
 #[unsafe(no_mangle)]
 pub extern "C" fn yinzhor_configure(
     lane: usize,
-    bytes: &mut [u8; 2456],
+    bytes: &mut [u8; RECORD],
     configuration: &mut [u8],
     coefficients: &[u8],
 ) -> u8
     requires configuration_len { length configuration.old ≡ 192 }
     requires coefficients_len { length coefficients.now ≡ 32 }
 {
-    voice_jobs::configuration::configure(lane, bytes, configuration, coefficients)
+    answered(voice_jobs::configuration::configure(
+        lane,
+        bytes,
+        configuration.as_mut_array().unwrap(),
+        coefficients.as_array().unwrap(),
+    ))
 }
 
 #[unsafe(no_mangle)]
-pub extern "C" fn yinzhor_filter(count: usize, bytes: &mut [u8; 2456]) -> bool
+pub extern "C" fn yinzhor_filter(count: usize, bytes: &mut [u8; RECORD]) -> bool
     requires { count ≤ 160 }
 {
-    voice_jobs::filtering::filter(count, bytes)
+    filtering::filter(count, bytes)
 }
 
 #[unsafe(no_mangle)]
 pub extern "C" fn yinzhor_play(
-    bytes: &mut [u8; 2456],
+    bytes: &mut [u8; RECORD],
     window: &[u8],
     base: u32,
     lane: &mut [i16],
 ) -> u8 {
-    voice_jobs::playing::play(bytes, window, base, lane)
+    let window = Window {
+        bytes: window,
+        base,
+    };
+    answered(playing::play(bytes, window, lane))
 }
 
 #[unsafe(no_mangle)]
-pub extern "C" fn yinzhor_reread(lane: usize, bytes: &mut [u8; 2456]) -> u8 {
-    frame_jobs::serving::reread(lane, bytes)
+pub extern "C" fn yinzhor_reread(lane: usize, bytes: &mut [u8; RECORD]) -> u8 {
+    answered(serving::reread(lane, bytes))
 }
 
 #[unsafe(no_mangle)]
 pub extern "C" fn yinzhor_serve(
-    bytes: &mut [u8; 2456],
+    bytes: &mut [u8; RECORD],
     lane: &mut [i16],
     configuration: &mut [u8],
     coefficients: &[u8],
@@ -60,14 +75,17 @@ pub extern "C" fn yinzhor_serve(
     requires mixes_len { length mixes.old ≡ 1920 }
     requires report_len { length report.old ≡ 12 }
 {
-    frame_jobs::serving::serve(
+    let window = Window {
+        bytes: window,
+        base,
+    };
+    answered(serving::serve(
         bytes,
         lane,
-        configuration,
-        coefficients,
+        configuration.as_mut_array().unwrap(),
+        coefficients.as_array().unwrap(),
         window,
-        base,
-        mixes,
-        report,
-    )
+        mixes.as_mut_array().unwrap(),
+        report.as_mut_array().unwrap(),
+    ))
 }

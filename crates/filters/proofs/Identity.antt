@@ -18,7 +18,7 @@ use Rattle.numbers.proofs.Ranges.{wrap_self}
 use Rattle.filters.specs.declared.state.SimpleFilter.{SimpleFilter}
 use Rattle.filters.specs.declared.state.BiquadFilter.{BiquadFilter}
 use Rattle.filters.specs.declared.state.Filters.{Filters}
-use Rattle.filters.specs.declared.process.Passed.{Passed}
+use Rattle.filters.specs.Passed.{Passed}
 use Rattle.filters.specs.Defaults.{default_biquad}
 use Rattle.filters.specs.Filter.{simple_sum, simple_value, biquad_sum, biquad_value}
 use Rattle.filters.specs.Process.{pass_simple, pass_biquad, pass}

@@ -1,10 +1,11 @@
 -- The filters of a voice over samples, by their marks: each filter that is on goes over all samples by itself, the simple one first, and
 -- one that is off changes nothing. By induction on the samples. Assumes nothing.
-use mathlib.Core.Path.{◌≡◌, refl, sym, ap, subst}
-use mathlib.Core.Bool.{Bool, true, false}
+use mathlib.Core.Path.{◌≡◌, refl, sym, ap, ◌∙◌, subst}
+use mathlib.Core.Bool.{Bool, true, false, cond}
 use mathlib.Core.List.{List, [], ◌∷◌}
 use Prim.Native.Nat.{ℕ, ◌-◌}
 use lib.IntN.{ℤ}
+use Rattle.lists.proofs.Bools.{cond_yes, cond_no}
 use Rattle.filters.specs.declared.state.SimpleFilter.{SimpleFilter}
 use Rattle.filters.specs.declared.state.BiquadFilter.{BiquadFilter}
 use Rattle.filters.specs.declared.state.Filters.{Filters}
@@ -71,3 +72,62 @@ pub marked :
     (P : Filters → Type 0) (f : Filters) (s b : Bool) → f.has_simple ≡ s → f.has_biquad ≡ b → P (the s f.simple b f.biquad)
     → P f
 marked P f s b d e p = subst P (sym (λ i. the (d i) f.simple (e i) f.biquad)) p
+
+-- ---- whatever the marks
+
+-- samples through a filter, if its mark is on, and the filter after them
+abbrev pub passed_if : {S : Type 0} → (ℕ → S → ℤ → ℤ) → (ℕ → S → ℤ → S) → Bool → S → List ℤ → List ℤ
+passed_if value next mark f samples = cond mark (all_passed value next 0 f samples) samples
+
+abbrev pub after_if : {S : Type 0} → (ℕ → S → ℤ → S) → Bool → S → List ℤ → S
+after_if next mark f samples = cond mark (after_all next 0 f samples) f
+
+-- what stands between the two filters: the simple one was passed if its mark is on
+pub record Between (f : Filters) (samples mid : List ℤ) (g : Filters) : Type 0 where
+  pub samples_are : mid ≡ passed_if simple_value simple_next f.has_simple f.simple samples
+  pub filters_are : g ≡ with_simple f (after_if simple_next f.has_simple f.simple samples)
+
+pub between_on : (f : Filters) (samples mid : List ℤ) (simple : SimpleFilter) (g : Filters) → f.has_simple ≡ true
+    → mid ≡ all_passed simple_value simple_next 0 f.simple samples → simple ≡ after_all simple_next 0 f.simple samples
+    → g ≡ with_simple f simple → Between f samples mid g
+between_on f samples mid simple g on m s e = record {
+  samples_are = m ∙ sym (cond_yes _ _ on);
+  filters_are = e ∙ ap (with_simple f) (s ∙ sym (cond_yes _ _ on));
+}
+
+pub between_off :
+    (f : Filters) (samples mid : List ℤ) (g : Filters) → f.has_simple ≡ false → mid ≡ samples → g ≡ f → Between f samples mid g
+between_off f samples mid g off m e = record {
+  samples_are = m ∙ sym (cond_no _ _ off);
+  filters_are = e ∙ ap (with_simple f) (sym (cond_no _ _ off));
+}
+
+by_marks :
+    (s : Bool) (f : SimpleFilter) (b : Bool) (g : BiquadFilter) (samples : List ℤ)
+    → Gives 0 (the s f b g) samples (passed_if biquad_value biquad_next b g (passed_if simple_value simple_next s f samples))
+    (the s (after_if simple_next s f samples) b (after_if biquad_next b g (passed_if simple_value simple_next s f samples)))
+by_marks true f true g samples = both 0 f g samples
+by_marks true f false g samples = only_simple 0 f g samples
+by_marks false f true g samples = only_biquad 0 f g samples
+by_marks false f false g samples = off 0 f g samples
+
+-- from there on, by the biquad filter's mark
+module _ (f : Filters) (samples mid : List ℤ) (g : Filters) (t : Between f samples mid g) where
+  ends : Gives 0 f samples (passed_if biquad_value biquad_next g.has_biquad g.biquad mid)
+      (with_biquad g (after_if biquad_next g.has_biquad g.biquad mid))
+  ends =
+      let law = by_marks f.has_simple f.simple f.has_biquad f.biquad samples in (
+        (λ i. passed_if biquad_value biquad_next (t.filters_are i).has_biquad (t.filters_are i).biquad (t.samples_are i)) ∙ law.0,
+        (λ i. with_biquad (t.filters_are i) (after_if biquad_next (t.filters_are i).has_biquad (t.filters_are i).biquad (t.samples_are i)))
+            ∙ law.1,
+      )
+
+  pub ends_off : g.has_biquad ≡ false → Gives 0 f samples mid g
+  ends_off e =
+      (sym (cond_no _ _ e) ∙ ends.0, ap (with_biquad g) (sym (cond_no (after_all biquad_next 0 g.biquad mid) g.biquad e)) ∙ ends.1)
+
+  pub ends_on :
+      g.has_biquad ≡ true
+      → Gives 0 f samples (all_passed biquad_value biquad_next 0 g.biquad mid) (with_biquad g (after_all biquad_next 0 g.biquad mid))
+  ends_on e =
+      (sym (cond_yes _ _ e) ∙ ends.0, ap (with_biquad g) (sym (cond_yes (after_all biquad_next 0 g.biquad mid) g.biquad e)) ∙ ends.1)

@@ -1,9 +1,7 @@
 -- What the filters keep to: what comes out of them has 16 bits, and their state stays in range. Assumes nothing.
-use mathlib.Core.Path.{◌≡◌, refl, sym, subst}
-use mathlib.Core.Bool.{Bool, true, false, not, ◌&&◌, cond}
+use mathlib.Core.Bool.{Bool, true, false, ◌&&◌, cond}
 use mathlib.Core.List.{List, [], ◌∷◌}
-use Prim.Native.Nat.{ℕ, zero, suc, ◌+◌, ◌-◌, zero-le, suc-le-suc}
-use native.Mathlib.Nat.{le_of_suc-le-suc, not-suc-le-zero}
+use Prim.Native.Nat.{ℕ, suc, ◌+◌, ◌-◌, zero-le, suc-le-suc}
 use lib.Dec.{T}
 use lib.IntN.{ℤ, pos}
 use lib.ListN.{get_or, set}
@@ -16,10 +14,11 @@ use Rattle.numbers.proofs.Ranges.{clamp_fits}
 use Rattle.filters.specs.declared.state.SimpleFilter.{SimpleFilter}
 use Rattle.filters.specs.declared.state.BiquadFilter.{BiquadFilter}
 use Rattle.filters.specs.declared.state.Filters.{Filters}
-use Rattle.filters.specs.declared.process.Passed.{Passed}
+use Rattle.filters.specs.Passed.{Passed}
 use Rattle.filters.specs.Range.{in_range, all_in_range, simple_in_range, biquad_in_range, filters_in_range}
 use Rattle.filters.specs.Filter.{simple_sum, simple_value, simple_after, biquad_sum, biquad_value, moved, biquad_after}
-use Rattle.filters.specs.Process.{pass_simple, pass_biquad, pass, passed_from, filters_after}
+use Rattle.filters.specs.Inner.{simple_next, biquad_next}
+use Rattle.filters.specs.Process.{pass_simple, pass_biquad, pass, filters_after}
 use Rattle.filters.specs.Identity.{AllFit}
 use Rattle.filters.proofs.Ranges.{both, sample_range, all_at, all_set}
 
@@ -94,35 +93,25 @@ biquad_kept channel f x0 value t h k =
     biquad_whole (biquad_after channel f x0 value)
     (record { b = p.b; a = p.a; x = moved_kept channel f.x x0 p.x h; y = moved_kept channel f.y value p.y k })
 
+-- a sample of 16 bits keeps a filter in range
+pub simple_stays :
+    (channel : ℕ) (f : SimpleFilter) (x : ℤ) → SFits w16 x → T (simple_in_range f) → T (simple_in_range (simple_next channel f x))
+simple_stays channel f x h t = simple_kept channel f (simple_value channel f x) t (simple_fits channel f x)
+
+pub biquad_stays :
+    (channel : ℕ) (f : BiquadFilter) (x : ℤ) → SFits w16 x → T (biquad_in_range f) → T (biquad_in_range (biquad_next channel f x))
+biquad_stays channel f x h t = biquad_kept channel f x (biquad_value channel f x) t h (biquad_fits channel f x)
+
 -- ---- the filters, by their marks
 
 -- the filters of two marks and two filters
 abbrev pub the : Bool → SimpleFilter → Bool → BiquadFilter → Filters
 the s f b g = record { has_simple = s; simple = f; has_biquad = b; biquad = g }
 
--- a mark, by the test that it is off
-pub was_off : (mark : Bool) → not mark ≡ true → mark ≡ false
-was_off true e = sym e
-was_off false e = refl
-
-pub was_on : (mark : Bool) → not mark ≡ false → mark ≡ true
-was_on true e = refl
-was_on false e = sym e
-
 -- what a pass leaves is in range: the value has 16 bits, the filters are within theirs
 pub record Kept (p : Passed) : Type 0 where
   pub value : SFits w16 p.value
   pub filters : T (filters_in_range p.filters)
-
-pub simple_on : (f : Filters) → f.has_simple ≡ true → T (filters_in_range f) → T (simple_in_range f.simple)
-simple_on f e t =
-    subst (λ (m : Bool). T (cond m (simple_in_range f.simple) true)) e
-    (and_left (cond f.has_simple (simple_in_range f.simple) true) (cond f.has_biquad (biquad_in_range f.biquad) true) t)
-
-pub biquad_on : (f : Filters) → f.has_biquad ≡ true → T (filters_in_range f) → T (biquad_in_range f.biquad)
-biquad_on f e t =
-    subst (λ (m : Bool). T (cond m (biquad_in_range f.biquad) true)) e
-    (and_right (cond f.has_simple (simple_in_range f.simple) true) (cond f.has_biquad (biquad_in_range f.biquad) true) t)
 
 module _ (channel : ℕ) (x : ℤ) (h : SFits w16 x) where
   by_simple :
@@ -173,14 +162,6 @@ first_fits x samples fit = fit 0 (suc-le-suc zero-le)
 
 pub rest_fit : (x : ℤ) (samples : List ℤ) → AllFit (x ∷ samples) → AllFit samples
 rest_fit x samples fit i h = fit (suc i) (suc-le-suc h)
-
-pub passed_fit :
-    (channel : ℕ) (f : Filters) (samples : List ℤ) → T (filters_in_range f) → AllFit samples → AllFit (passed_from channel f samples)
-passed_fit channel f [] t fit i h = absurd (not-suc-le-zero h)
-passed_fit channel f (x ∷ samples) t fit zero h = (pass_keeps channel f x (first_fits x samples fit) t).value
-passed_fit channel f (x ∷ samples) t fit (suc i) h =
-    passed_fit (1 - channel) (pass channel f x).filters samples (pass_keeps channel f x (first_fits x samples fit) t).filters
-    (rest_fit x samples fit) i (le_of_suc-le-suc h)
 
 pub after_in_range :
     (channel : ℕ) (f : Filters) (samples : List ℤ) → T (filters_in_range f) → AllFit samples

@@ -1,14 +1,13 @@
 -- Samples put through one filter in their place, whatever the filter: what holds at the head of a loop over them, and that a sample more
 -- keeps it, since what is left comes out of the filter as it is then. Assumes nothing.
 use mathlib.Core.Path.{◌≡◌, refl, sym, ap, ◌∙◌, subst}
-use mathlib.Core.List.{List, [], ◌∷◌, ◌++◌, append-nil}
-use Prim.Native.Nat.{ℕ, suc, ◌+◌, ◌-◌, ◌<◌, ◌≤◌}
+use mathlib.Core.List.{List, [], ◌∷◌}
+use Prim.Native.Nat.{ℕ, suc, ◌+◌, ◌-◌, ◌<◌}
 use native.Mathlib.Omega.{arith}
 use lib.IntN.{ℤ, pos}
-use lib.ListN.{length, take, drop, get_or, take-append-drop, length-drop}
-use lib.Seq.{take_all, take_at, drop_at, length-take-le}
-use Rattle.lists.proofs.Fill.{Filling, filling_none, filling_more, filling_next, filling_all}
-use Rattle.lists.proofs.Walk.{drop_next, drop_end}
+use lib.ListN.{length, drop, get_or}
+use Rattle.lists.proofs.Fill.{Filling, filling_more, filling_next}
+use Rattle.lists.proofs.Walk.{drop_next}
 use Rattle.filters.specs.Inner.{one_passed, all_passed, after_all}
 
 module _ {S : Type 0} (value : ℕ → S → ℤ → ℤ) (next : ℕ → S → ℤ → S) where
@@ -25,9 +24,6 @@ module _ {S : Type 0} (value : ℕ → S → ℤ → ℤ) (next : ℕ → S → 
   module _ (first : S) (old : List ℤ) where
     abbrev goal : List ℤ
     goal = all_passed value next 0 first old
-
-    pub start : Done first old old first 0 0
-    start = record { filling = filling_none goal old; left = refl; after = refl }
 
     pub turn :
         (now : List ℤ) (f : S) (channel i : ℕ) (out : List ℤ) (g : S) → i < length old → Done first old now f channel i
@@ -56,55 +52,24 @@ module _ {S : Type 0} (value : ℕ → S → ℤ → ℤ) (next : ℕ → S → 
         parts =
             sym (drop_next goal i (pos 0) (omega (arith, length_all 0 first old))) ∙ d.left ∙ ap (all_passed value next channel f) one
 
-    -- the same, the next index by an equation
+    -- the same, the next index and its channel by equations
     pub turn_to :
-        (now : List ℤ) (f : S) (channel i k : ℕ) (out : List ℤ) (g : S) → i + 1 ≡ k → i < length old → Done first old now f channel i
-        → out ≡ one_passed value channel f now i → g ≡ next channel f (get_or now i (pos 0)) → Done first old out g (1 - channel) k
-    turn_to now f channel i k out g to h d e q =
-        subst (λ (j : ℕ). Done first old out g (1 - channel) j) to (turn now f channel i out g h d e q)
+        (now : List ℤ) (f : S) (channel i c k : ℕ) (out : List ℤ) (g : S) → 1 - channel ≡ c → i + 1 ≡ k → i < length old
+        → Done first old now f channel i → out ≡ one_passed value channel f now i → g ≡ next channel f (get_or now i (pos 0))
+        → Done first old out g c k
+    turn_to now f channel i c k out g turned to h d e q =
+        subst (λ (b : ℕ). Done first old out g b k) turned
+        (subst (λ (j : ℕ). Done first old out g (1 - channel) j) to (turn now f channel i out g h d e q))
 
     -- four samples more, left and right in turn
     pub four :
-        {now out₁ out₂ out₃ out₄ : List ℤ} {f g₁ g₂ g₃ g₄ : S} (i : ℕ) → i + 3 < length old → Done first old now f 0 i
+        {now out₁ out₂ out₃ out₄ : List ℤ} {f g₁ g₂ g₃ g₄ : S} (i k : ℕ) → i + 4 ≡ k → i + 3 < length old → Done first old now f 0 i
         → out₁ ≡ one_passed value 0 f now i → g₁ ≡ next 0 f (get_or now i (pos 0))
         → out₂ ≡ one_passed value 1 g₁ out₁ (i + 1) → g₂ ≡ next 1 g₁ (get_or out₁ (i + 1) (pos 0))
         → out₃ ≡ one_passed value 0 g₂ out₂ (i + 2) → g₃ ≡ next 0 g₂ (get_or out₂ (i + 2) (pos 0))
-        → out₄ ≡ one_passed value 1 g₃ out₃ (i + 3) → g₄ ≡ next 1 g₃ (get_or out₃ (i + 3) (pos 0)) → Done first old out₄ g₄ 0 (i + 4)
-    four {now} {out₁} {out₂} {out₃} {out₄} {f} {g₁} {g₂} {g₃} {g₄} i h d e₁ q₁ e₂ q₂ e₃ q₃ e₄ q₄ =
-        turn_to out₃ g₃ 1 (i + 3) (i + 4) out₄ g₄ (omega arith) h
-        (turn_to out₂ g₂ 0 (i + 2) (i + 3) out₃ g₃ (omega arith) (omega arith)
-        (turn_to out₁ g₁ 1 (i + 1) (i + 2) out₂ g₂ (omega arith) (omega arith)
+        → out₄ ≡ one_passed value 1 g₃ out₃ (i + 3) → g₄ ≡ next 1 g₃ (get_or out₃ (i + 3) (pos 0)) → Done first old out₄ g₄ 0 k
+    four {now} {out₁} {out₂} {out₃} {out₄} {f} {g₁} {g₂} {g₃} {g₄} i k to h d e₁ q₁ e₂ q₂ e₃ q₃ e₄ q₄ =
+        turn_to out₃ g₃ 1 (i + 3) 0 k out₄ g₄ refl (omega arith) h
+        (turn_to out₂ g₂ 0 (i + 2) 1 (i + 3) out₃ g₃ refl (omega arith) (omega arith)
+        (turn_to out₁ g₁ 1 (i + 1) 0 (i + 2) out₂ g₂ refl (omega arith) (omega arith)
         (turn now f 0 i out₁ g₁ (omega arith) d e₁ q₁) e₂ q₂) e₃ q₃) e₄ q₄
-
-    pub finish :
-        (now : List ℤ) (f : S) (channel i : ℕ) → length old ≤ i → Done first old now f channel i
-        → (now ≡ goal) × (f ≡ after_all next 0 first old)
-    finish now f channel i h d = (
-      filling_all goal old now i (length_all 0 first old) h d.filling,
-      sym (d.after ∙ ap (after_all next channel f) (drop_end old i h)),
-    )
-
-    -- what is left is lent as `[i..]`, comes back passed, and nothing lies after it
-    pub rest :
-        (now : List ℤ) (f : S) (i : ℕ) (out : List ℤ) (g : S) → Done first old now f 0 i
-        → out ≡ all_passed value next 0 f (take (length now - i) (drop i now)) → g ≡ after_all next 0 f (take (length now - i) (drop i now))
-        → (take i now ++ (out ++ drop (length now - i) (drop i now)) ≡ goal) × (g ≡ after_all next 0 first old)
-    rest now f i out g d e q = (
-      (λ j. front j ++ ((e ∙ ap (all_passed value next 0 f) lent ∙ sym d.left) j ++ none j))
-          ∙ ap (λ (l : List ℤ). take i goal ++ l) (append-nil (drop i goal)) ∙ take-append-drop i goal,
-      q ∙ ap (after_all next 0 f) lent ∙ sym d.after,
-    )
-      where
-        long : length (take i goal) ≡ i
-        long = length-take-le i goal (omega (arith, length_all 0 first old, d.filling.reach))
-
-        front : take i now ≡ take i goal
-        front = ap (take i) d.filling.stored ∙ take_at (take i goal) (drop i old) i long
-
-        lent : take (length now - i) (drop i now) ≡ drop i old
-        lent =
-            take_all (length now - i) (drop i now) (omega (arith, length-drop i now))
-            ∙ ap (drop i) d.filling.stored ∙ drop_at (take i goal) (drop i old) i long
-
-        none : drop (length now - i) (drop i now) ≡ []
-        none = drop_end (drop i now) (length now - i) (omega (arith, length-drop i now))

@@ -1,7 +1,7 @@
 -- Module 3 of document 01, samples through the filters of a voice. Assumes nothing: these are definitions.
 use Rattle.std.specs.Prelude.{ℕ, ◌-◌, cond, List, [], ◌∷◌, ℤ}
 use Rattle.filters.specs.declared.state.Filters.{Filters}
-use Rattle.filters.specs.declared.process.Passed.{Passed}
+use Rattle.filters.specs.Passed.{Passed}
 use Rattle.filters.specs.Filter.{simple_value, simple_after, biquad_value, biquad_after}
 
 -- a sample of a channel through a filter, where its mark is on: the value, and the filters after it

@@ -4,36 +4,40 @@ ghost use Rattle.filters.specs.Defaults.{default_simple, default_biquad, no_filt
 
 use crate::state::{BiquadFilter, Filters, SimpleFilter};
 
-pub fn default_simple() -> SimpleFilter
-    ensures { result ≡ default_simple }
-{
-    SimpleFilter {
-        b0: 32768,
-        a1: 0,
-        y1: [0, 0],
+impl Default for SimpleFilter {
+    ghost is_default = { λ f. f ≡ default_simple };
+
+    fn default() -> SimpleFilter {
+        SimpleFilter {
+            b0: 32768,
+            a1: 0,
+            y1: [0; 2],
+        }
     }
 }
 
-pub fn default_biquad() -> BiquadFilter
-    ensures { result ≡ default_biquad }
-{
-    BiquadFilter {
-        b: [16384, 0, 0],
-        a: [0, 0],
-        x: [0, 0, 0, 0],
-        y: [0, 0, 0, 0],
+impl Default for BiquadFilter {
+    ghost is_default = { λ f. f ≡ default_biquad };
+
+    fn default() -> BiquadFilter {
+        BiquadFilter {
+            b: [16384, 0, 0],
+            a: [0; 2],
+            x: [0; 4],
+            y: [0; 4],
+        }
     }
 }
 
-pub fn no_filters() -> Filters
-    ensures { result ≡ no_filters }
-{
-    let simple = default_simple();
-    let biquad = default_biquad();
-    Filters {
-        has_simple: false,
-        simple,
-        has_biquad: false,
-        biquad,
+impl Default for Filters {
+    ghost is_default = { λ f. f ≡ no_filters };
+
+    fn default() -> Filters {
+        Filters {
+            has_simple: false,
+            simple: SimpleFilter::default(),
+            has_biquad: false,
+            biquad: BiquadFilter::default(),
+        }
     }
 }

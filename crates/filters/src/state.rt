@@ -17,7 +17,7 @@ pub struct BiquadFilter {
     pub y: [i32; 4],
 }
 
-// A filter counts only where its mark is on.
+// A filter counts only where its mark is on. Document 01 wants a record with each mark beside its data, so they are no `Option`s.
 #[derive(Clone, Copy)]
 pub struct Filters {
     pub has_simple: bool,

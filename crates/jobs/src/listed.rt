@@ -1,65 +1,62 @@
 // A decode listing. The part has 44 bytes: the length of an input, a word; a seed, 16 bits; a header of 38 bytes. The input is the header
 // and bytes made by a rule from the seed, cut to the length. The answer has the listing's length and a sum over all of its bytes, words,
 // and the last of it, at most 1,024 bytes.
-ghost use Rattle.std.specs.Prelude.{◌≤◌};
+ghost use Rattle.std.specs.Prelude.{◌<◌, ◌≤◌, ◌^◌, length, IfSome};
 ghost use Rattle.listing.specs.Sizes.{input_room};
 
 use crate::sizes::ROOM;
-use listing::sizes;
+use listing::sizes::{HEADER, INPUT_ROOM, OUTPUT_ROOM};
+use replaying::{put_each, read, sum};
 
 const PART: usize = 44;
 
 const SHOWN: usize = 1024;
 
+// The next number of the rule, of 16 bits.
+fn next(state: u32) -> u32
+    ensures { result < 2 ^ 16 }
+{
+    state.wrapping_mul(25173).wrapping_add(13849) % 65536
+}
+
 // Makes the bytes after the header.
-fn make_frames(seed: u16, buffer: &mut [u8; sizes::INPUT_ROOM]) {
-    let mut state = seed as u32;
-    let mut i = sizes::HEADER;
-    while i < sizes::INPUT_ROOM {
-        state = (state * 25173 + 13849) % 65536;
-        buffer[i] = (state / 256) as u8;
-        i += 1;
+fn make_frames(seed: u16, frames: &mut [u8]) {
+    let mut state = u32::from(seed);
+    for byte in frames {
+        state = next(state);
+        *byte = (state / 256) as u8;
     }
 }
 
-// The smaller of two.
-fn least(a: usize, b: usize) -> usize
-    ensures upper_bound { result ≤ a }
-    ensures upper_bound_2 { result ≤ b }
+// Puts what an answer has of a listing.
+fn shown<'a>(text: &[u8], out: &'a mut [u8; ROOM]) -> Option<&'a [u8]>
+    ensures { IfSome result (λ s. length s.now ≤ 1032) }
 {
-    if a < b { a } else { b }
-}
-
-fn put_answer(text: &[u8], out: &mut [u8; ROOM]) -> usize
-    ensures { result ≤ 1032 }
-{
-    little::write32(out, 0, (text.len() % 0x1_0000_0000) as u32);
-    little::write32(out, 4, replaying::sum(text));
-    let shown = least(text.len(), SHOWN);
-    let first = text.len() - shown;
-    little::put(out, 8, &text[first..]);
-    shown + 8
+    let words = [(text.len() & 0xFFFF_FFFF) as u32, sum(text, u32::from)];
+    put_each(&words, out);
+    let last = &text[text.len().saturating_sub(SHOWN)..];
+    let end = 8 + last.len();
+    out.get_mut(8..end)?.copy_from_slice(last);
+    out.get(..end)
 }
 
 // Lists what was read of an input.
-fn list(buffer: &[u8; sizes::INPUT_ROOM], got: usize, out: &mut [u8; ROOM]) -> usize
+fn list<'a>(buffer: &[u8; INPUT_ROOM], got: usize, out: &'a mut [u8; ROOM]) -> Option<&'a [u8]>
     requires { got ≤ input_room }
-    ensures { result ≤ 1032 }
+    ensures { IfSome result (λ s. length s.now ≤ 1032) }
 {
-    let mut output = [0u8; sizes::OUTPUT_ROOM];
+    let mut output = [0u8; OUTPUT_ROOM];
     let n = listing::list_read(buffer, got, &mut output);
-    put_answer(&output[..n], out)
+    shown(output.get(..n)?, out)
 }
 
-pub fn answer(part: &[u8], out: &mut [u8; ROOM]) -> usize
-    ensures { result ≤ 1032 }
+pub fn answer<'a>(part: &[u8], out: &'a mut [u8; ROOM]) -> Option<&'a [u8]>
+    ensures { IfSome result (λ s. length s.now ≤ 1032) }
 {
-    if part.len() != PART {
-        return 0;
-    }
-    let got = least(little::read32(part, 0) as usize, sizes::INPUT_ROOM);
-    let mut buffer = [0u8; sizes::INPUT_ROOM];
-    little::put(&mut buffer, 0, &part[6..44]);
-    make_frames(little::read16(part, 4), &mut buffer);
+    let part = part.as_array::<PART>()?;
+    let mut buffer = [0u8; INPUT_ROOM];
+    buffer[..HEADER].copy_from_slice(&part[6..]);
+    make_frames(read(&part[4..]), &mut buffer[HEADER..]);
+    let got = (read::<4, u32>(part) as usize).min(INPUT_ROOM);
     list(&buffer, got, out)
 }

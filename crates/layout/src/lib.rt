@@ -1,12 +1,15 @@
-// The seven places of a region, and the numbers 1, 2 and 3. `layout_number` takes the lengths of the two regions and the offsets that a
-// caller lends, for any values of these, and gives the lowest number that applies, or 0. It reads no memory. A call that goes on with 0
+// The seven places of a region, and the numbers 1, 2 and 3. `accept` takes the lengths of the two regions and the offsets that a caller
+// lends, for any values of these, and refuses them by the lowest number that applies. It reads no memory. A call that is not refused here
 // knows that each place lies in both regions and that no two share a byte (`Sound`, `accepted`).
 #![tactic(auto)]
 
-ghost use Rattle.std.specs.Prelude.{◌≡◌, ◌≤◌, leb, drop};
-ghost use Rattle.layout.specs.Places.{end, places_of, apart_two, inside, apart_from, apart, layout_number};
+ghost use Rattle.std.specs.List.{list_all};
+ghost use Rattle.std.specs.Prelude.{◌≡◌, leb};
+ghost use Rattle.refusals.specs.Numbers.{number_of};
+ghost use Rattle.layout.specs.Places.{end, places_of, apart_two, apart, layout_number};
 
 use fields::{config, mixer_config, status};
+use refusals::Refusal;
 
 // Where each place begins, the same in both regions.
 #[derive(Clone, Copy)]
@@ -27,6 +30,29 @@ pub struct Place {
     pub size: u32,
 }
 
+impl Place {
+    // The offset of the byte after its last.
+    fn end(self) -> u64
+        ensures { result ≡ end self }
+    {
+        u64::from(self.at) + u64::from(self.size)
+    }
+
+    // Whether it shares no byte with another place.
+    fn is_apart(self, other: Place) -> bool
+        ensures { result ≡ apart_two self other }
+    {
+        self.end() <= u64::from(other.at) || other.end() <= u64::from(self.at)
+    }
+
+    // Whether it shares no byte with any of these.
+    fn is_apart_from(self, others: &[Place]) -> bool
+        ensures { result ≡ list_all (apart_two self) others.now }
+    {
+        others.iter().all(|other| self.is_apart(*other))
+    }
+}
+
 const VOICES: u32 = 24;
 
 const CONFIGURATIONS: u32 = VOICES * (config::CONFIG_SIZE as u32);
@@ -45,8 +71,6 @@ const FINAL_SAMPLES: u32 = 160 * 2 * 2;
 
 // A frame's samples for 4 channels of 2 mixes, of 4 bytes.
 const INTERMEDIATE_SAMPLES: u32 = 2 * 4 * 160 * 4;
-
-const PLACES: usize = 7;
 
 const REGION_MOST: usize = 65536;
 
@@ -86,85 +110,40 @@ fn places_of(l: Layout) -> [Place; 7]
     ]
 }
 
-// Whether two places share no byte.
-fn apart_two(p: Place, q: Place) -> bool
-    ensures { result ≡ apart_two p q }
-{
-    if (p.at as u64) + (p.size as u64) <= (q.at as u64) {
-        return true;
-    }
-    (q.at as u64) + (q.size as u64) <= (p.at as u64)
-}
-
-// Whether a place ends within a region of n bytes.
-fn inside_one(n: usize, p: Place) -> bool
-    ensures { result ≡ leb (end p) n }
-{
-    (p.at as usize) + (p.size as usize) <= n
-}
-
 // Whether every place ends within a region of n bytes.
-fn all_inside(n: usize, places: [Place; 7]) -> bool
-    ensures { result ≡ inside n places }
+fn all_inside(n: usize, places: &[Place]) -> bool
+    ensures { result ≡ list_all (λ p. leb (end p) n) places.now }
 {
-    let mut i = 0;
-    while i < PLACES {
-        let p = places[i];
-        if !inside_one(n, p) {
-            return false;
-        }
-        i += 1;
-    }
-    true
-}
-
-// Whether a place shares no byte with any of those from an index on.
-fn apart_from(p: Place, places: [Place; 7], from: usize) -> bool
-    requires { from ≤ 7 }
-    ensures { result ≡ apart_from p (drop from places) }
-{
-    let mut j = from;
-    while j < PLACES {
-        let q = places[j];
-        if !apart_two(p, q) {
-            return false;
-        }
-        j += 1;
-    }
-    true
+    places.iter().all(|p| p.end() <= n as u64)
 }
 
 // Whether no two places share a byte.
-fn all_apart(places: [Place; 7]) -> bool
-    ensures { result ≡ apart places }
+fn all_apart(places: &[Place]) -> bool
+    ensures { result ≡ apart places.now }
 {
-    let mut i = 0;
-    while i < PLACES {
-        let p = places[i];
-        if !apart_from(p, places, i + 1) {
+    let mut rest = places;
+    while let Some((first, others)) = rest.split_first() {
+        if !first.is_apart_from(others) {
             return false;
         }
-        i += 1;
+        rest = others;
     }
     true
 }
 
-// The lowest of the numbers 1, 2 and 3 that applies to two regions of so many bytes, or 0.
-pub fn layout_number(first: usize, second: usize, l: Layout) -> u8
-    ensures { result ≡ layout_number first second l }
+// Refuses, by the lowest of 1, 2 and 3 that applies, two regions of so many bytes.
+pub fn accept(first: usize, second: usize, l: Layout) -> Result<(), Refusal>
+    ensures { number_of result ≡ layout_number first second l }
 {
-    if first != second {
-        return 1;
-    }
-    if first > REGION_MOST {
-        return 1;
+    if first != second || first > REGION_MOST {
+        return Err(Refusal::RegionLengths);
     }
     let places = places_of(l);
-    if !all_inside(first, places) {
-        return 2;
+    if !all_inside(first, &places) {
+        return Err(Refusal::PlaceOutside);
     }
-    if !all_apart(places) {
-        return 3;
+    if !all_apart(&places) {
+        return Err(Refusal::PlacesShare);
     }
-    0
+    Ok(())
 }

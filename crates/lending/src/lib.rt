@@ -1,16 +1,18 @@
-// Lends a program's records to the calls for all voices and for one voice alone, for tests only: a program holds its records in an array,
-// and code over an array by value is covered, where code over a lent slice of records is not. `frame` and `stem` lend the first so many,
-// and refuse nothing of their own.
+// Lends a program's records to the calls for all voices and for one voice alone, for tests only: a job has as many records as it says, which
+// stand in an array. `frame` and `stem` lend the first so many, and refuse nothing of their own.
 #![tactic(auto)]
 
 ghost use Rattle.std.specs.Prelude.{◌++◌, ◌≡◌, ◌≤◌, take, drop};
+ghost use Rattle.refusals.specs.Numbers.{number_of};
 ghost use Rattle.stems.specs.Call.{whole_number, alone_number};
 ghost use Rattle.calls.specs.Lent.{lent};
+ghost use Rattle.calls.specs.Refused.{given};
 ghost use Rattle.voices.specs.Tick.{left, RefusedBy};
 ghost use Rattle.alone.specs.TickVoice.{left as leftAlone, refused};
 
 use alone::tick_voice;
-use calls::refused::Returned;
+use calls::refused::Refused;
+use refusals::Refusal;
 use stems::Fixed;
 use voice::record::Voice;
 use voices::tick;
@@ -19,16 +21,10 @@ use voices::tick;
 pub const MOST: usize = 25;
 
 // The records after a call, and what the call gave back.
-#[derive(Clone, Copy)]
+#[derive(Drop)]
 pub struct Framed {
     pub vs: [Voice; MOST],
-    pub answer: Returned,
-}
-
-fn joined(vs: [Voice; MOST], answer: Returned) -> Framed
-    ensures { (result.vs ≡ vs) × (result.answer ≡ answer) }
-{
-    Framed { vs, answer }
+    pub answer: Result<Refused, Refusal>,
 }
 
 // Lends the first so many records to the call for all voices.
@@ -43,7 +39,7 @@ pub fn frame(
     mixes: &mut [i32],
 ) -> Framed
     requires { count ≤ 25 }
-    ensures { (result.answer.number ≡ whole_number fixed (lent region0.old region1.old
+    ensures { (number_of result.answer ≡ whole_number fixed (lent region0.old region1.old
         window.now (take count records) lanes.old mixes.old))
         × (result.vs ≡ (left fixed (lent region0.old region1.old
         window.now (take count records) lanes.old mixes.old)).memory.records ++ drop count records)
@@ -56,11 +52,11 @@ pub fn frame(
         × (mixes.new ≡ (left fixed (lent region0.old region1.old
         window.now (take count records) lanes.old mixes.old)).mixes)
         × RefusedBy fixed (lent region0.old region1.old
-        window.now (take count records) lanes.old mixes.old) result.answer.refused }
+        window.now (take count records) lanes.old mixes.old) (given result.answer) }
 {
-    let mut w = records;
+    let mut vs = records;
     let answer = tick(
-        &mut w[0..count],
+        &mut vs[..count],
         fixed,
         region0,
         region1,
@@ -68,7 +64,7 @@ pub fn frame(
         lanes,
         mixes,
     );
-    joined(w, answer)
+    Framed { vs, answer }
 }
 
 // Lends them to the call for one voice alone.
@@ -84,7 +80,7 @@ pub fn stem(
     mixes: &mut [i32],
 ) -> Framed
     requires { count ≤ 25 }
-    ensures { (result.answer.number ≡ alone_number fixed voice (lent region0.old region1.old
+    ensures { (number_of result.answer ≡ alone_number fixed voice (lent region0.old region1.old
         window.now (take count records) lanes.old mixes.old))
         × (result.vs ≡ (leftAlone fixed voice (lent region0.old region1.old
         window.now (take count records) lanes.old mixes.old)).memory.records ++ drop count records)
@@ -96,12 +92,12 @@ pub fn stem(
         window.now (take count records) lanes.old mixes.old)).memory.lanes)
         × (mixes.new ≡ (leftAlone fixed voice (lent region0.old region1.old
         window.now (take count records) lanes.old mixes.old)).mixes)
-        × (result.answer.refused ≡ refused fixed voice (lent region0.old region1.old
+        × (given result.answer ≡ refused fixed voice (lent region0.old region1.old
         window.now (take count records) lanes.old mixes.old)) }
 {
-    let mut w = records;
+    let mut vs = records;
     let answer = tick_voice(
-        &mut w[0..count],
+        &mut vs[..count],
         voice,
         fixed,
         region0,
@@ -110,5 +106,5 @@ pub fn stem(
         lanes,
         mixes,
     );
-    joined(w, answer)
+    Framed { vs, answer }
 }

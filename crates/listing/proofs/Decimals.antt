@@ -1,64 +1,47 @@
--- The laws of decimal digits and of columns: a number of ten or more has the digits of its tenth part and one more, by induction on the
--- turns. Assumes nothing.
-use mathlib.Core.Path.{◌≡◌, sym, ap, ◌∙◌}
-use mathlib.Core.Bool.{Bool, true, false}
-use mathlib.Core.List.{List, [], ◌∷◌, ◌++◌}
-use mathlib.Core.Logic.{⊎_elim}
-use Prim.Native.Nat.{ℕ, zero, suc, ◌+◌, ◌/◌, ◌^◌, ◌≤◌, ◌<◌}
-use native.Mathlib.Nat.{not-suc-le-zero}
-use native.Mathlib.Omega.{arith}
-use lib.ListN.{length, length-append}
+-- The digits of the definition are those that std's definition has, which appends the last digit too. Assumes nothing.
+use Rattle.std.proofs.Common.{◌≡◌, ℕ, suc, ◌+◌, ◌/◌, ◌^◌, ◌≤◌, ◌<◌, List, [], ◌∷◌, ◌++◌, length, ℤ, pos, negsuc, ap, ◌∙◌, sym, arith, SFits, to_z, of_z, to_z-of_z}
+use lib.Signed.{mag}
+use mir.Syntax.{w16}
+use Rattle.std.specs.Fmt as fmt
+use Rattle.std.proofs.lemmas.Fmt.{AppendsLastDigit, decimal_from_appends, length-decimal-le, length-decimal-le_succ, length_signed_le}
 use borrow.Author.Tests.{lt-ltb, le-ltb}
 use Rattle.lists.proofs.Bools.{cond_yes, cond_no}
-use Rattle.lists.proofs.Walk.{below_or}
-use Rattle.listing.specs.Text.{last_digit, decimal_in, decimal, numeral}
+use Rattle.listing.specs.Text.{last_digit, decimal_in, decimal, signed_decimal, column}
+use Rattle.listing.specs.Sizes.{width, most_samples}
 
 -- after the digits of its tenth part, or after none, the last digit
 abbrev last : List ℕ → ℕ → List ℕ
 last digits n = digits ++ (last_digit n ∷ [])
 
-single : (turns n : ℕ) → n < 10 → decimal_in (suc turns) n ≡ last [] n
-single turns n h = ap (λ (l : List ℕ). last l n) (cond_yes [] (decimal_in turns (n / 10)) (lt-ltb n 10 h))
+appends : AppendsLastDigit decimal_in
+appends = record {
+  one = λ turns n h.
+      ap (λ (l : List ℕ). last l n) (cond_yes [] (decimal_in turns (n / 10)) (lt-ltb n 10 h)) ∙ ap (λ (k : ℕ). (48 + k) ∷ []) (omega arith);
+  more = λ turns n h. ap (λ (l : List ℕ). last l n) (cond_no [] (decimal_in turns (n / 10)) (le-ltb n 10 h));
+}
 
-several : (turns n : ℕ) → 10 ≤ n → decimal_in (suc turns) n ≡ last (decimal_in turns (n / 10)) n
-several turns n h = ap (λ (l : List ℕ). last l n) (cond_no [] (decimal_in turns (n / 10)) (le-ltb n 10 h))
-
--- enough turns are as good as more
-enough : (m k n : ℕ) → n < m → n < k → decimal_in m n ≡ decimal_in k n
-enough zero k n h l = absurd (not-suc-le-zero h)
-enough (suc m) zero n h l = absurd (not-suc-le-zero l)
-enough (suc m) (suc k) n h l =
-    ⊎_elim (λ q. single m n q ∙ sym (single k n q))
-    (λ q. several m n q ∙ ap (λ (l : List ℕ). last l n) (enough m k (n / 10) (omega arith) (omega arith)) ∙ sym (several k n q))
-    (below_or n 10)
-
-pub one_digit : (n : ℕ) → n < 10 → decimal n ≡ last_digit n ∷ []
+pub same_decimal : (n : ℕ) → n < 2 ^ 64 → fmt.decimal n ≡ decimal n
 unfolding decimal
-one_digit n h = single n n h
+same_decimal n h = sym (decimal_from_appends decimal_in appends (suc n) n h (omega (arith, length-decimal-le_succ n h)))
 
-pub more_digits : (n : ℕ) → 10 ≤ n → decimal n ≡ decimal (n / 10) ++ (last_digit n ∷ [])
-unfolding decimal
-more_digits n h = several n n h ∙ ap (λ (l : List ℕ). last l n) (enough n (suc (n / 10)) (n / 10) (omega arith) (omega arith))
+pub same_signed : (z : ℤ) → mag z < 2 ^ 63 → fmt.signed_decimal z ≡ signed_decimal z
+same_signed (pos n) h = same_decimal n (omega arith)
+same_signed (negsuc n) h = ap (λ (digits : List ℕ). 45 ∷ digits) (same_decimal (suc n) (omega arith))
 
--- how many they are
-pub one_long : (n : ℕ) → n < 10 → length (decimal n) ≡ 1
-one_long n h = ap length (one_digit n h)
+-- a sample as the code reads it: its column, and that it fits one
+module _ {z : ℤ} (f : SFits w16 z) where
+  small : mag z < 2 ^ 15
+  small = f.sfits
 
-pub more_long : (n : ℕ) → 10 ≤ n → length (decimal n) ≡ length (decimal (n / 10)) + 1
-more_long n h = ap length (more_digits n h) ∙ length-append (decimal (n / 10)) (last_digit n ∷ [])
+  pub shown : column width (fmt.signed_decimal (to_z w16 (of_z w16 z))) ≡ column width (signed_decimal z)
+  shown = ap (λ (y : ℤ). column width (fmt.signed_decimal y)) (to_z-of_z f) ∙ ap (column width) (same_signed z (omega arith))
 
-pub some_digit : (n : ℕ) → 1 ≤ length (decimal n)
-some_digit n = ⊎_elim (λ q. omega (arith, one_long n q)) (λ q. omega (arith, more_long n q)) (below_or n 10)
+  pub sample_narrow : length (fmt.signed_decimal (to_z w16 (of_z w16 z))) ≤ width
+  sample_narrow =
+      let e = ap (λ (y : ℤ). length (fmt.signed_decimal y)) (to_z-of_z f) in
+      let short = length_signed_le 5 z (omega arith) (omega arith) in
+      omega arith
 
--- a number below a power of ten has no more digits than the power has zeros
-pub short : (k n : ℕ) → n < 10 ^ suc k → length (decimal n) ≤ suc k
-short zero n h = omega (arith, one_long n h)
-short (suc k) n h =
-    ⊎_elim (λ q. omega (arith, one_long n q))
-    (λ q. omega (arith, more_long n q, short k (n / 10) (omega arith)))
-    (below_or n 10)
-
--- a sign takes one place
-pub numeral_short : (negative : Bool) (n k : ℕ) → length (decimal n) ≤ k → length (numeral negative n) ≤ suc k
-numeral_short true n k h = omega arith
-numeral_short false n k h = omega arith
+-- an index below the largest count fits a column
+pub index_narrow : (n : ℕ) → n < most_samples → length (fmt.decimal n) ≤ width
+index_narrow n h = let short = length-decimal-le 5 n (omega arith) (omega arith) (omega arith) in omega arith

@@ -1,4 +1,5 @@
 pub mod Cut
 pub mod Decimals
 pub mod Example
+pub mod Header
 pub mod Puts

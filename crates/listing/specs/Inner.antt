@@ -1,5 +1,5 @@
 -- What the contracts of the inner functions cite besides. Assumes nothing: these are definitions.
-use Rattle.std.specs.Prelude.{ℕ, ◌+◌, ◌≤◌, ◌≡◌, List, ◌++◌, length, take}
+use Rattle.std.specs.Prelude.{ℕ, ◌+◌, ◌≤◌, ◌≡◌, List, length}
 use Rattle.lists.specs.Splice.{splice}
 use Rattle.listing.specs.Sizes.{header, frame_bytes, most_samples}
 use Rattle.listing.specs.Listing.{count_in}
@@ -8,11 +8,6 @@ use Rattle.listing.specs.Listing.{count_in}
 pub record Put (old : List ℕ) (at : ℕ) (text new : List ℕ) (next : ℕ) : Type 0 where
   pub stored : new ≡ splice old at text
   pub after : next ≡ at + length text
-
--- `new` ends with `text`, from the place `first` on, and before that it is as `old` was
-pub record Ends (old text new : List ℕ) (first : ℕ) : Type 0 where
-  pub stored : new ≡ take first old ++ text
-  pub all : first + length text ≡ length old
 
 -- a complete input of so many samples
 pub record Whole (input : List ℕ) (count : ℕ) : Type 0 where

@@ -1,49 +1,32 @@
 // The input's header.
-ghost use Rattle.std.specs.Prelude.{◌≡◌, ◌+◌, ◌*◌, ◌≤◌, ◌<◌, length};
-ghost use Rattle.listing.specs.Sizes.{header};
+ghost use Rattle.std.specs.Prelude.{◌≡◌, ◌<◌};
 ghost use Rattle.listing.specs.Listing.{coefficients_in, history_in, count_in};
 
+use crate::sizes::HEADER;
 use adpcm::History;
 use little::signed_at;
 
 // The 16 coefficients.
-pub fn coefficients(bytes: &[u8]) -> [i16; 16]
-    requires { header ≤ length bytes.now }
-    ensures { result ≡ coefficients_in bytes.now }
+pub fn coefficients(header: &[u8; HEADER]) -> [i16; 16]
+    ensures { result ≡ coefficients_in header.now }
 {
-    let mut values = [0i16; 16];
-    let mut i = 0;
-    while i < 16 {
-        values[i] = signed_at(bytes, i * 2);
-        i += 1;
-    }
-    values
+    std::array::from_fn(|i| signed_at(header, i * 2))
 }
 
 // The history to go on from.
-pub fn history(bytes: &[u8]) -> History
-    requires { header ≤ length bytes.now }
-    ensures { result ≡ history_in bytes.now }
+pub fn history(header: &[u8; HEADER]) -> History
+    ensures { result ≡ history_in header.now }
 {
     History {
-        yn1: signed_at(bytes, 32),
-        yn2: signed_at(bytes, 34),
+        yn1: signed_at(header, 32),
+        yn2: signed_at(header, 34),
     }
 }
 
-// A 16-bit number as a count, with its bound.
-fn wide(x: u16) -> usize
-    ensures value { result ≡ x }
-    ensures upper_bound { result < 65536 }
-{
-    x as usize
-}
-
 // How many samples the frames hold.
-pub fn count(bytes: &[u8]) -> usize
-    requires { header ≤ length bytes.now }
-    ensures value { result ≡ count_in bytes.now }
+pub fn count(header: &[u8; HEADER]) -> usize
+    ensures value { result ≡ count_in header.now }
     ensures upper_bound { result < 65536 }
 {
-    wide(little::read16(bytes, 36))
+    usize::from(little::read16(header, 36))
 }

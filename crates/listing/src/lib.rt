@@ -17,29 +17,34 @@ ghost use Rattle.listing.specs.Listing.{read_of, samples_in, last_history_in, ta
 use adpcm::History;
 use sizes::{HEADER, MOST_SAMPLES, OUTPUT_ROOM};
 
-// Decodes a complete input of so many samples into the first places of `samples`.
-fn decode(bytes: &[u8], count: usize, samples: &mut [i16]) -> History
-    requires whole { Whole bytes.now count }
-    requires count_in_bounds { count ≤ length samples.old }
-    ensures samples { take count samples.new ≡ samples_in bytes.now }
+// Decodes a complete input of as many samples as there are places for.
+fn decode(bytes: &[u8], samples: &mut [i16]) -> History
+    requires { Whole bytes.now (length samples.old) }
+    ensures samples { samples.new ≡ samples_in bytes.now }
     ensures history { result ≡ last_history_in bytes.now }
 {
-    let coefficients = input::coefficients(bytes);
-    let history = input::history(bytes);
-    let decoded = adpcm::decode_adpcm(&bytes[HEADER..], count, &coefficients, history, samples);
-    decoded.history
+    let header = bytes.first_chunk().unwrap();
+    let coefficients = input::coefficients(header);
+    let mut history = input::history(header);
+    // A complete input is not refused.
+    let _ = adpcm::decode_adpcm(
+        &bytes[HEADER..],
+        samples.len(),
+        &coefficients,
+        &mut history,
+        samples,
+    );
+    history
 }
 
-// Decodes a complete input of so many samples, and puts both tables.
-fn put_decoded(bytes: &[u8], count: usize, samples: &mut [i16], output: &mut [u8]) -> usize
-    requires whole { Whole bytes.now count }
-    requires count_in_bounds { count ≤ length samples.old }
-    requires output_len { length output.old ≡ output_room }
+// Decodes a complete input of as many samples as there are places for, and puts both tables.
+fn put_decoded(bytes: &[u8], samples: &mut [i16], output: &mut [u8; OUTPUT_ROOM]) -> usize
+    requires { Whole bytes.now (length samples.old) }
     ensures tables { Put output.old 0 (tables_of bytes.now) output.new result }
     ensures next { result ≤ output_room }
 {
-    let last = decode(bytes, count, samples);
-    table::put_tables(&samples[..count], last, output)
+    let last = decode(bytes, samples);
+    table::put_tables(samples, last, output)
 }
 
 // Lists the decode of an input, or prints 9 where bytes are missing or left over, and answers how many bytes of the output that takes.
@@ -48,18 +53,19 @@ pub fn listing(input: &[u8], output: &mut [u8; OUTPUT_ROOM]) -> usize
     ensures output { output.new ≡ listed input.now ++ drop result output.old }
     ensures within { result ≤ length output.new }
 {
-    if input.len() < HEADER {
+    let Some(header) = input.first_chunk() else {
         return table::put_nine(output);
-    }
-    let count = input::count(input);
-    if input.len() != HEADER + (count + 13) / 14 * 8 {
+    };
+    let count = input::count(header);
+    if input.len() != HEADER + count.div_ceil(14) * 8 {
         return table::put_nine(output);
     }
     let mut samples = [0i16; MOST_SAMPLES];
-    put_decoded(input, count, &mut samples, output)
+    put_decoded(input, &mut samples[..count], output)
 }
 
 // Lists an input of which `got` bytes were read into a buffer, all of it or as many as the buffer holds. What was not read changes nothing.
+// The buffer is no array with its length in the type, since the C export lends a slice.
 pub fn list_read(buffer: &[u8], got: usize, output: &mut [u8; OUTPUT_ROOM]) -> usize
     requires buffer_len { length buffer.now ≡ input_room }
     requires got_le_input_room { got ≤ input_room }

@@ -8,7 +8,7 @@ pub const LINE: usize = 2 * WIDTH + 1;
 pub const HEADER: usize = (16 + 3) * 2;
 // The largest count.
 pub const MOST_SAMPLES: usize = 65535;
-// The frames of that many samples.
+// The frames of that many samples, rounded up by hand: a constant can call no `div_ceil`.
 pub const MOST_FRAMES: usize = (MOST_SAMPLES + 13) / 14 * 8;
 // The longest input that is complete.
 pub const LONGEST: usize = HEADER + MOST_FRAMES;

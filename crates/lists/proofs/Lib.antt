@@ -7,3 +7,4 @@ pub mod Splice
 pub mod Joined
 pub mod Tabulate
 pub mod Walk
+pub mod FromFn

@@ -2,10 +2,7 @@ pub mod Closest
 pub mod Halved
 pub mod Quarter
 pub mod Product
-pub mod Own
 pub mod Way
-pub mod Turns
 pub mod Silence
-pub mod Heard
-pub mod Stays
-pub mod Fades
+pub mod Runs
+pub mod Floats

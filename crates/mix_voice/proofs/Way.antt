@@ -1,7 +1,7 @@
 -- What the tests of a gain say, and that a gain on its way from one of at most 16 to another stays within 48, as rounding keeps a bound
 -- that is a whole number. Assumes nothing.
 use mathlib.Core.Path.{◌≡◌, refl, sym}
-use mathlib.Core.Bool.{true, false, ◌&&◌, ◌||◌, true≢false}
+use mathlib.Core.Bool.{true, false, ◌||◌, true≢false}
 use Prim.Native.Nat.{ℕ, ◌+◌, ◌*◌, ◌^◌, ◌≤◌, ◌<◌}
 use native.Mathlib.Nat.{le_trans, mul-one, one-mul, mul-le-mul_right, zero-lt-suc}
 use native.Mathlib.Omega.{arith}
@@ -14,8 +14,7 @@ use Rattle.numbers.specs.Casts.{single}
 use Rattle.numbers.proofs.Reach.{Reach, of_value, round_reach, add_reach, mul_reach}
 use Rattle.numbers.proofs.Value.{int_value}
 use Rattle.mixing.specs.Gain.{progress, at_gain, fading}
-use Rattle.mix_voice.specs.declared.sums.Gains.{Gains}
-use Rattle.mix_voice.specs.Quick.{QUICK_GAIN, FADING_GAIN, within, all_within, Around}
+use Rattle.mix_voice.specs.Quick.{QUICK_GAIN, FADING_GAIN, within, Around}
 use Rattle.mix_voice.proofs.Product.{le_means}
 
 -- ---- the code's literal
@@ -44,14 +43,6 @@ around_power h (fin false m d) e =
     at_one (m * up d) (2 ^ h) (down d)
     (le_means p q (eqb p q) (true || eqb p 0) (eqb→eq p q)
     (and_both (le (fin true 1 (pos h)) (fin false m d)) (le (fin false m d) (fin false 1 (pos h))) e).1)
-
-pub within_each : (most : Float) (g : Gains) → all_within most g ≡ true
-    → (within most g.g0 ≡ true) × ((within most g.g1 ≡ true) × ((within most g.g2 ≡ true) × (within most g.g3 ≡ true)))
-unfolding all_within
-within_each most g h =
-    let a = and_both (within most g.g0) (within most g.g1 && (within most g.g2 && within most g.g3)) h in
-    let b = and_both (within most g.g1) (within most g.g2 && within most g.g3) a.1 in
-    (a.0, (b.0, and_both (within most g.g2) (within most g.g3) b.1))
 
 -- ---- the two names of a bound
 around : (x : Float) (c k : ℕ) → Reach x c → c ≤ k → Around k x

@@ -3,22 +3,21 @@
 use mathlib.Core.Path.{◌≡◌, refl, sym, ap, ◌∙◌}
 use mathlib.Core.Bool.{Bool, true, false, not, ◌||◌, cond}
 use mathlib.Core.List.{List}
-use Prim.Native.Nat.{ℕ, zero, suc, ◌≤◌, ◌<◌}
+use Prim.Native.Nat.{ℕ, ◌≤◌, ◌<◌}
 use native.Mathlib.Omega.{arith}
 use lib.Dec.{eqb, ltb, lit≤, lit<}
 use lib.IntN.{ℤ}
 use lib.ListN.{length}
-use borrow.Author.Tests.{eqb-true, eqb-false, ltb-true, ne_eqb}
+use borrow.Author.Tests.{eqb-true, eqb-false, ltb-true}
 use Rattle.layout.specs.Exactly.{Exactly}
 use Rattle.layout.specs.Places.{region_most, places_of, inside, apart, layout_number}
 use Rattle.layout.specs.declared.Layout.{Layout}
 use Rattle.layout.proofs.Places as places
 use Rattle.mixer_state.specs.declared.Mixer.{Mixer}
 use Rattle.numbers.specs.Sizes.{MIXES}
-use Rattle.mixer.specs.declared.tick.Mixed.{Mixed}
-use Rattle.mixer.specs.Tick.{Outcome, number_of, exchanged, refusal, served, left, ticked}
+use Rattle.mixer.specs.Tick.{Mixed, Outcome, number_of, ticked}
 use Rattle.mixer.specs.Exactly.{Gives, NoneOfThree, ExactlyIf, RefusedLeavesAll}
-use Rattle.mixer.proofs.Outcomes.{chain, by_layout, by_mixes, by_region, none, only_none}
+use Rattle.mixer.proofs.Outcomes.{chain, by_layout, by_mixes, by_region, none, only_none, refused_is}
 
 gives_layout : (a b c : Bool) (n k : ℕ) → 0 < k → k ≤ 3 → chain a b c n ≡ k → n ≡ k
 gives_layout true true true n k p q e = absurd (omega arith)
@@ -111,24 +110,9 @@ module _ (l : Layout) (m : Mixer) (mixes : List ℤ) (which : ℕ) (first second
     );
   }
 
-  -- a refused call, by the region's number and then by the test of its own
-  abbrev tested : ℕ → Bool → Outcome
-  tested w b =
-      let used = exchanged w (first, second) in
-      let regions = exchanged w (cond b (left l m mixes used) used) in
-      record { answer = cond b (served l m mixes used.0) (refusal m number); first = regions.0; second = regions.1 }
-
-  nothing : (w : ℕ) → tested w false ≡ record { answer = refusal m number; first = first; second = second }
-  nothing zero = refl
-  nothing (suc k) = refl
-
-  refused_is : (number ≡ 0 → ⊥) → ticked l m mixes which first second ≡ record { answer = refusal m number; first = first; second = second }
-  unfolding ticked
-  refused_is h = ap (tested which) (ne_eqb number 0 h) ∙ nothing which
-
   pub refused_leaves_all : RefusedLeavesAll l m mixes which first second
   refused_leaves_all h =
-      let is = refused_is (λ z. h (number_is ∙ z)) in record {
+      let is = refused_is l m mixes which first second (λ z. h (number_is ∙ z)) in record {
         frame = ap (λ (o : Outcome). o.answer.frame) is;
         state = ap (λ (o : Outcome). o.answer.mixer) is;
         region0 = ap (λ (o : Outcome). o.first) is;

@@ -11,11 +11,12 @@ use borrow.Author.Tests.{eqb-true, eqb-false, ltb-false, lt-ltb, le-ltb, eq-eqb,
 use Rattle.lists.proofs.Bools.{cond_yes, cond_no, not_yes, not_no}
 use Rattle.layout.specs.Places.{layout_number}
 use Rattle.layout.specs.declared.Layout.{Layout}
+use Rattle.layout.specs.Exactly.{Sound}
 use Rattle.layout.proofs.Places as places
 use Rattle.mixer_state.specs.declared.Mixer.{Mixer}
 use Rattle.numbers.specs.Sizes.{MIXES}
 use Rattle.mixer.specs.Inner.{Roomy}
-use Rattle.mixer.specs.Tick.{number_of, Outcome, refusal, served, left, answered, after, called, ticked}
+use Rattle.mixer.specs.Tick.{number_of, Outcome, exchanged, refusal, served, left, ticked}
 
 -- ---- the number
 
@@ -55,71 +56,48 @@ module _ (first second : ℕ) (l : Layout) (mixes which : ℕ) where
       let t = gives_zero (eqb n 0) (eqb mixes MIXES) (ltb 1 which) n (eqb-false n 0) e in
       (eqb-true n 0 t.0, eqb-true mixes MIXES t.1, ltb-false 1 which t.2)
 
-  -- an accepted layout has room for what the mixer uses
-  roomy : layout_number first second l ≡ 0 → Roomy l first
-  roomy e =
-      let w = (places.accepted first second l e).within in
-      record { configuration = w 4 (lit< tt); final = w 5 (lit< tt); intermediate = w 6 (lit< tt) }
+  -- regions that have a layout are as long, and have room for what the mixer uses
+  pub rooms : layout_number first second l ≡ 0 → Roomy l first × Roomy l second
+  rooms e = (roomy, subst (Roomy l) accepted.same roomy)
+    where
+      accepted : Sound first second l
+      accepted = places.accepted first second l e
 
--- what serving a call asks of regions and mixes of these lengths, where its number is 0, whichever region is read
-pub record Ready (first second : ℕ) (l : Layout) (mixes n : ℕ) : Type 0 where
-  pub first_room : n ≡ 0 → Roomy l first
-  pub second_room : n ≡ 0 → Roomy l second
-  pub same : n ≡ 0 → first ≡ second
-  pub same_back : n ≡ 0 → second ≡ first
-  pub whole : n ≡ 0 → mixes ≡ MIXES
-
-pub ready : (first second : ℕ) (l : Layout) (mixes which n : ℕ) → n ≡ number_of first second l mixes which → Ready first second l mixes n
-ready first second l mixes which n e = record {
-  first_room = room;
-  second_room = λ z. subst (Roomy l) (same z) (room z);
-  same = same;
-  same_back = λ z. sym (same z);
-  whole = λ z. (zero z).1;
-}
-  where
-    zero : n ≡ 0 → (layout_number first second l ≡ 0) × (mixes ≡ MIXES) × (which ≤ 1)
-    zero z = only_none first second l mixes which (sym e ∙ z)
-
-    room : n ≡ 0 → Roomy l first
-    room z = roomy first second l mixes which (zero z).0
-
-    same : n ≡ 0 → first ≡ second
-    same z = (places.accepted first second l (zero z).0).same
+      roomy : Roomy l first
+      roomy =
+          let w = accepted.within in
+          record { configuration = w 4 (lit< tt); final = w 5 (lit< tt); intermediate = w 6 (lit< tt) }
 
 -- ---- the call with its number
 
-module _ (l : Layout) (m : Mixer) (mixes : List ℤ) (n : ℕ) where
-  pub answered_refused : (read : List ℕ) → (n ≡ 0 → ⊥) → refusal m n ≡ answered l m mixes n read
-  answered_refused read h = sym (cond_no _ _ (ne_eqb n 0 h))
+module _ (l : Layout) (m : Mixer) (mixes : List ℤ) (which : ℕ) (first second : List ℕ) where
+  abbrev number : ℕ
+  number = number_of (length first) (length second) l (length mixes) which
 
-  pub after_refused : (used : List ℕ × List ℕ) → (n ≡ 0 → ⊥) → used ≡ after l m mixes n used
-  after_refused used h = sym (cond_no _ _ (ne_eqb n 0 h))
+  -- a call by the region's number and by the test of its own
+  abbrev tested : ℕ → Bool → Outcome
+  tested w b =
+      let used = exchanged w (first, second) in
+      let regions = exchanged w (cond b (left l m mixes used) used) in
+      record { answer = cond b (served l m mixes used.0) (refusal m number); first = regions.0; second = regions.1 }
 
-  pub answered_served : (read : List ℕ) → n ≡ 0 → served l m mixes read ≡ answered l m mixes n read
-  answered_served read e = sym (cond_yes _ _ (eq-eqb n 0 e))
+  -- one that is refused leaves all
+  nothing : (w : ℕ) → tested w false ≡ record { answer = refusal m number; first = first; second = second }
+  nothing zero = refl
+  nothing (suc k) = refl
 
-  pub after_served : (used : List ℕ × List ℕ) → n ≡ 0 → left l m mixes used ≡ after l m mixes n used
-  after_served used e = sym (cond_yes _ _ (eq-eqb n 0 e))
-
-module _ (l : Layout) (m : Mixer) (mixes : List ℤ) (which : ℕ) (first second : List ℕ) (n : ℕ) where
-  abbrev by : ℕ → Outcome
-  by w = called l m mixes w first second n
-
-  abbrev Right : Type 0
-  Right = n ≡ number_of (length first) (length second) l (length mixes) which
-
-  whole : Right → by which ≡ ticked l m mixes which first second
+  pub refused_is :
+      (number ≡ 0 → ⊥)
+      → ticked l m mixes which first second ≡ record { answer = refusal m number; first = first; second = second }
   unfolding ticked
-  whole e = ap (called l m mixes which first second) e
+  refused_is h = ap (tested which) (ne_eqb number 0 h) ∙ nothing which
 
-  -- with region 0 read the regions stand in the order of their use, and else they are exchanged
-  pub read_first : Right → which ≡ 0 → by 0 ≡ ticked l m mixes which first second
-  read_first e z = ap by (sym z) ∙ whole e
-
-  pub read_second : Right → (which ≡ 0 → ⊥) → by 1 ≡ ticked l m mixes which first second
-  read_second e z = other which z ∙ whole e
-    where
-      other : (w : ℕ) → (w ≡ 0 → ⊥) → by 1 ≡ by w
-      other zero h = absurd (h refl)
-      other (suc k) h = refl
+-- a call that is served, by the number of the region that is read; its mixes are those given
+module _ (l : Layout) (m : Mixer) (mixes given : List ℤ) (which : ℕ) (first second : List ℕ) where
+  pub served_is :
+      (w : ℕ) → 0 ≡ number_of (length first) (length second) l (length given) which → which ≡ w → mixes ≡ given
+      → tested l m mixes which first second w true ≡ ticked l m given which first second
+  unfolding ticked
+  served_is w e z same =
+      (λ i. tested l m (same i) which first second w true)
+      ∙ sym (λ i. tested l m given which first second (z i) (eq-eqb (number l m given which first second) 0 (sym e) i))

@@ -1,5 +1,5 @@
 -- The mixer's call: what it gives back and what it leaves in the two regions, refused or not. Assumes nothing: these are definitions.
-use Rattle.std.specs.Prelude.{ℕ, zero, suc, not, cond, List, eqb, ltb, ℤ, length}
+use Rattle.std.specs.Prelude.{◌≡◌, ℕ, zero, suc, not, cond, List, eqb, ltb, ℤ, length}
 use Rattle.lists.specs.Splice.{part}
 use Rattle.layout.specs.Places.{layout_number}
 use Rattle.layout.specs.declared.Layout.{Layout}
@@ -7,7 +7,8 @@ use Rattle.numbers.specs.Sizes.{MIXES}
 use Rattle.mixer_state.specs.Configuration.{configuration_bytes, configured, cleared}
 use Rattle.mixer_frame.specs.Frame.{silence, frame_of, write_after}
 use Rattle.mixer_state.specs.declared.Mixer.{Mixer}
-use Rattle.mixer.specs.declared.tick.Mixed.{Mixed}
+use Rattle.refusals.specs.Numbers as refusals
+use Rattle.mixer.specs.declared.tick.Mixed as code
 
 -- "The lowest number that applies is returned": 1, 2 and 3 of the layout, 6 where the mixes are not 1,920 numbers, 8 where the number of
 -- the region to be read exceeds 1
@@ -27,6 +28,18 @@ module _ (l : Layout) where
   state_of m read = configured (configuration_in read) m
 
 -- ---- the call
+
+-- what a call gives back: 0, or the number of its refusal; the state; and 160 pairs of final samples
+pub record Mixed : Type 0 where
+  pub number : ℕ
+  pub mixer : Mixer
+  pub frame : List ℤ
+
+-- the code's result is such an answer, part by part
+pub record GivesBack (result : code.Mixed) (answer : Mixed) : Type 0 where
+  pub number : refusals.number_of result.outcome ≡ answer.number
+  pub mixer : result.mixer ≡ answer.mixer
+  pub frame : result.frame ≡ answer.frame
 
 -- what a call gives back, and what it leaves in regions 0 and 1
 pub record Outcome : Type 0 where

@@ -1,8 +1,11 @@
 // The mixer's call on lent memory.
-ghost use Rattle.std.specs.Prelude.{◌≡◌, length};
+ghost use Rattle.std.specs.Prelude.{◌≡◌, ◌+◌, ◌≤◌, ◌≢◌, IfOk, IfErr, length};
+ghost use Rattle.lists.specs.Splice.{part};
+ghost use Rattle.refusals.specs.Numbers.{number, number_of};
 ghost use Rattle.numbers.specs.Sizes.{MIXES};
-ghost use Rattle.mixer.specs.Inner.{Roomy};
-ghost use Rattle.mixer.specs.Tick.{number_of, refusal, served, left, answered, after, ticked};
+ghost use Rattle.mixer_state.specs.Configuration.{configuration_bytes};
+ghost use Rattle.mixer.specs.Inner.{Roomy, Accepted};
+ghost use Rattle.mixer.specs.Tick.{number_of as lowest_number, GivesBack, refusal, served, left, ticked};
 
 use fields::mixer_config::CONFIG_SIZE;
 use layout::Layout;
@@ -10,78 +13,79 @@ use mixer_frame::{frame_of, write_out};
 use mixer_state::Mixer;
 use mixer_state::configuration::{clear_dirty, parse_config};
 use numbers::sizes::{FRAME, MIXES};
+use refusals::Refusal;
+use region::Region;
 
-// What a call gives back: 0, or the number of its refusal; the state; and 160 pairs of final samples.
+// What a call gives back: what it was refused for, if it was; the state; and 160 pairs of final samples.
 #[derive(Clone, Copy)]
 pub struct Mixed {
-    pub number: u8,
+    pub outcome: Result<(), Refusal>,
     pub mixer: Mixer,
     pub frame: [i16; FRAME],
 }
 
+// The configuration at a place of a region.
+fn configuration(region: &[u8], at: usize) -> &[u8; CONFIG_SIZE]
+    requires { at + configuration_bytes ≤ length region.now }
+    ensures { result.now ≡ part at configuration_bytes region.now }
+{
+    region[at..at + CONFIG_SIZE].as_array().unwrap()
+}
+
 // A call that is not refused, by the region that is read and the other one.
-fn mix(l: Layout, m: Mixer, read: &mut [u8], write: &mut [u8], given: &[i32]) -> Mixed
-    requires roomy { Roomy l (length read.old) }
-    requires write_len { length write.old ≡ length read.old }
-    requires given_len { length given.now ≡ MIXES }
-    ensures answer { result ≡ served l m given.now read.old }
+fn mix(l: Layout, m: Mixer, read: &mut [u8], write: &mut [u8], given: &[i32; MIXES]) -> Mixed
+    requires read_room { Roomy l (length read.old) }
+    requires write_room { Roomy l (length write.old) }
+    ensures answer { GivesBack result (served l m given.now read.old) }
     ensures read { read.new ≡ (left l m given.now (read.old, write.old)).0 }
     ensures written { write.new ≡ (left l m given.now (read.old, write.old)).1 }
 {
     let at = l.mixer_configuration as usize;
-    let end = at + CONFIG_SIZE;
-    let state = parse_config(m, &read[at..end]);
-    let frame = frame_of(l, state, read, given);
-    write_out(l, state, given, &frame, write);
+    let mixer = parse_config(m, configuration(read, at));
+    let frame = frame_of(l, mixer, read, given);
+    write_out(l, mixer, given, &frame, write);
     clear_dirty(read, at);
     Mixed {
-        number: 0,
-        mixer: state,
+        outcome: Ok(()),
+        mixer,
         frame,
     }
 }
 
 // What a refused call gives back.
-fn refuse(number: u8, mixer: Mixer) -> Mixed
-    ensures { result ≡ refusal mixer number }
+fn refuse(reason: Refusal, mixer: Mixer) -> Mixed
+    ensures { GivesBack result (refusal mixer (number reason)) }
 {
     Mixed {
-        number,
+        outcome: Err(reason),
         mixer,
         frame: [0i16; FRAME],
     }
 }
 
-// A call with its number, by the region that is read and the other one.
-fn serve(number: u8, l: Layout, m: Mixer, read: &mut [u8], write: &mut [u8], given: &[i32]) -> Mixed
-    requires roomy { number ≡ 0 → Roomy l (length read.old) }
-    requires write_len { number ≡ 0 → length write.old ≡ length read.old }
-    requires given_len { number ≡ 0 → length given.now ≡ MIXES }
-    ensures answer { result ≡ answered l m given.now number read.old }
-    ensures read { read.new ≡ (after l m given.now number (read.old, write.old)).0 }
-    ensures written { write.new ≡ (after l m given.now number (read.old, write.old)).1 }
+// The mixes, of which there must be 1,920 numbers.
+fn whole(given: &[i32]) -> Result<&[i32; MIXES], Refusal>
+    ensures ok { IfOk result (λ mixes. (mixes.now ≡ given.now) × (length given.now ≡ MIXES)) }
+    ensures err { IfErr result (λ reason. (reason ≡ Refusal.MixLength) × (length given.now ≢ MIXES)) }
 {
-    if number != 0 {
-        return refuse(number, m);
-    }
-    mix(l, m, read, write, given)
+    given.as_array().ok_or(Refusal::MixLength)
 }
 
-// The number of a call: the lowest that applies, or 0.
-fn number_of(first: usize, second: usize, l: Layout, mixes: usize, which: u32) -> u8
-    ensures { result ≡ number_of first second l mixes which }
+// Accepts a call's mixes and the number of the region to be read, or refuses the call by the lowest number that applies.
+fn accept(
+    first: usize,
+    second: usize,
+    l: Layout,
+    given: &[i32],
+    which: u32,
+) -> Result<(&[i32; MIXES], Region), Refusal>
+    ensures number { number_of result ≡ lowest_number first second l (length given.now) which }
+    ensures accepted { IfOk result (λ a. Accepted first second l given.now which a.0.now a.1) }
 {
-    let found = layout::layout_number(first, second, l);
-    if found != 0 {
-        return found;
-    }
-    if mixes != MIXES {
-        return 6;
-    }
-    if which > 1 {
-        return 8;
-    }
-    0
+    layout::accept(first, second, l)?;
+    let mixes = whole(given)?;
+    let region = Region::try_from(which)?;
+    Ok((mixes, region))
 }
 
 // Mixes one frame: `which` is the number of the region that the title wrote last, which is read.
@@ -93,13 +97,13 @@ pub fn tick(
     second: &mut [u8],
     given: &[i32],
 ) -> Mixed
-    ensures answer { result ≡ (ticked l m given.now which first.old second.old).answer }
-    ensures left0 { first.new ≡ (ticked l m given.now which first.old second.old).first }
-    ensures left1 { second.new ≡ (ticked l m given.now which first.old second.old).second }
+    ensures answer { GivesBack result (ticked l m given.now which first.old second.old).answer }
+    ensures first_region { first.new ≡ (ticked l m given.now which first.old second.old).first }
+    ensures second_region { second.new ≡ (ticked l m given.now which first.old second.old).second }
 {
-    let number = number_of(first.len(), second.len(), l, given.len(), which);
-    if which == 0 {
-        return serve(number, l, m, first, second, given);
+    match accept(first.len(), second.len(), l, given, which) {
+        Ok((mixes, Region::Zero)) => mix(l, m, first, second, mixes),
+        Ok((mixes, Region::One)) => mix(l, m, second, first, mixes),
+        Err(reason) => refuse(reason, m),
     }
-    serve(number, l, m, second, first, given)
 }

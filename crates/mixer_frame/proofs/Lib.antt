@@ -1,2 +1,1 @@
-pub mod Buses
 pub mod Traps

@@ -4,63 +4,85 @@
 // Nothing is refused: that the places lie in the regions is required, which the mixer's call knows from an accepted layout.
 #![tactic(auto)]
 
-ghost use Rattle.std.specs.Prelude.{◌≡◌, ◌+◌, ◌≤◌, length};
-ghost use Rattle.numbers.specs.Sizes.{FRAME, MIXES};
-ghost use Rattle.mix_bytes.specs.Sizes.{final_bytes, intermediate_bytes};
-ghost use Rattle.mixer_frame.specs.Frame.{frame_of, out_of};
+ghost use Rattle.std.specs.Prelude.{◌≡◌, cond, ◌+◌, ◌≤◌, ◌<◌, length};
+ghost use Rattle.lists.specs.Splice.{part, splice};
+ghost use Rattle.mix_bytes.specs.Mixes.{words_in, word_bytes};
+ghost use Rattle.mix_bytes.specs.Sizes.{final_bytes, aux_bytes, intermediate_bytes};
+ghost use Rattle.mixer_frame.specs.Frame.{mix_of, frame_of, out_of};
 
+use downmix::downmix;
 use layout::Layout;
 use mix_bytes::sizes::AUX_BYTES;
+use mix_bytes::{put_values, read_mix};
 use mixer_state::Mixer;
 use numbers::sizes::{FRAME, MIX, MIXES};
 
-// Where mixes 1 and 2 of the three begin.
-const MIX_1: usize = MIX;
+// Mix k of the three that are given.
+fn mix_of(k: usize, given: &[i32; MIXES]) -> &[i32; MIX]
+    requires { k < 3 }
+    ensures { result.now ≡ mix_of k given.now }
+{
+    given[k * MIX..(k + 1) * MIX].as_array().unwrap()
+}
 
-const MIX_2: usize = 2 * MIX;
+// The bytes at a place of the region that is read, where a title returned a mix.
+fn returned(read: &[u8], at: usize) -> &[u8; AUX_BYTES]
+    requires { at + aux_bytes ≤ length read.now }
+    ensures { result.now ≡ part at aux_bytes read.now }
+{
+    read[at..at + AUX_BYTES].as_array().unwrap()
+}
+
+// A mix as it reaches the output: what the title made of it where its aux bus is on, else as it is given.
+fn heard(on: bool, returned: &[u8; AUX_BYTES], given: &[i32; MIX]) -> [i32; MIX]
+    ensures { result ≡ cond on (words_in returned.now) given.now }
+{
+    if on { read_mix(returned) } else { *given }
+}
 
 // The frame that a state makes of the mixes given and those in the region that is read.
-pub fn frame_of(l: Layout, state: Mixer, read: &[u8], given: &[i32]) -> [i16; FRAME]
-    requires intermediate_bytes_in_bounds { l.intermediate_samples + intermediate_bytes ≤ length read.now }
-    requires given_len { length given.now ≡ MIXES }
+pub fn frame_of(l: Layout, state: Mixer, read: &[u8], given: &[i32; MIXES]) -> [i16; FRAME]
+    requires { l.intermediate_samples + intermediate_bytes ≤ length read.now }
     ensures { result ≡ frame_of l state read.now given.now }
 {
-    let aux = state.aux;
-    let start = l.intermediate_samples as usize;
-    let middle = start + AUX_BYTES;
-    let end = middle + AUX_BYTES;
-    let mut first = [0i32; MIX];
-    mix_bytes::hear(
-        aux[0],
-        &read[start..middle],
-        &given[MIX_1..MIX_2],
-        &mut first,
-    );
-    let mut second = [0i32; MIX];
-    mix_bytes::hear(
-        aux[1],
-        &read[middle..end],
-        &given[MIX_2..MIXES],
-        &mut second,
+    let at = l.intermediate_samples as usize;
+    let first = heard(state.aux[0], returned(read, at), mix_of(1, given));
+    let second = heard(
+        state.aux[1],
+        returned(read, at + AUX_BYTES),
+        mix_of(2, given),
     );
     let mut frame = [0i16; FRAME];
-    downmix::downmix(&mut frame, &given[0..MIX], state, 0);
-    downmix::downmix(&mut frame, &first, state, 1);
-    downmix::downmix(&mut frame, &second, state, 2);
+    downmix(&mut frame, mix_of(0, given), state, 0);
+    downmix(&mut frame, &first, state, 1);
+    downmix(&mut frame, &second, state, 2);
     frame
 }
 
+// Sends the new mix of an aux bus to its place where the bus is on.
+fn send(on: bool, mix: &[i32; MIX], write: &mut [u8], at: usize)
+    requires { at + aux_bytes ≤ length write.old }
+    ensures { write.new ≡ cond on (splice write.old at (word_bytes mix.now)) write.old }
+{
+    if on {
+        put_values(mix, write, at);
+    }
+}
+
 // Writes the mixes that go to the title, and the final samples.
-pub fn write_out(l: Layout, state: Mixer, given: &[i32], frame: &[i16], write: &mut [u8])
+pub fn write_out(
+    l: Layout,
+    state: Mixer,
+    given: &[i32; MIXES],
+    frame: &[i16; FRAME],
+    write: &mut [u8],
+)
     requires intermediate_bytes_in_bounds { l.intermediate_samples + intermediate_bytes ≤ length write.old }
     requires final_bytes_in_bounds { l.final_samples + final_bytes ≤ length write.old }
-    requires given_len { length given.now ≡ MIXES }
-    requires frame_len { length frame.now ≡ FRAME }
     ensures { write.new ≡ out_of l state given.now frame.now write.old }
 {
-    let aux = state.aux;
-    let start = l.intermediate_samples as usize;
-    mix_bytes::send(aux[0], &given[MIX_1..MIX_2], write, start);
-    mix_bytes::send(aux[1], &given[MIX_2..MIXES], write, start + AUX_BYTES);
-    mix_bytes::put_frame(frame, write, l.final_samples as usize);
+    let at = l.intermediate_samples as usize;
+    send(state.aux[0], mix_of(1, given), write, at);
+    send(state.aux[1], mix_of(2, given), write, at + AUX_BYTES);
+    put_values(frame, write, l.final_samples as usize);
 }

@@ -1,5 +1,5 @@
-// Test only: a call of the mixer, all that it is lent in bytes. `answer` takes a job's part and puts its answer; a part that has not the
-// form is answered by nothing. Numbers are little-endian, words have 32 bits. The part has 596 bytes:
+// Test only: a call of the mixer, all that it is lent in bytes. `answer` takes a job's part and gives its answer, or none where the part
+// has not the form. Numbers are little-endian, words have 32 bits. The part has 596 bytes:
 //   0  the state, 16 bytes, as mixer_forms has it
 //  16  the layout's seven offsets as words, in document 01's order
 //  44  words: how long regions 0 and 1 are, 65,537 at most; how many values the mixes have, 1,921 at most; the region number
@@ -15,15 +15,16 @@
 // 660  a sum over every byte of region 0, and one of region 1, as words
 #![tactic(auto)]
 
-ghost use Rattle.std.specs.Prelude.{◌≡◌, ◌+◌, ◌≤◌, length};
+ghost use Rattle.std.specs.Prelude.{◌<◌, ◌≤◌, ◌^◌};
 
-use little::read32;
-use mixer::tick::Mixed;
+use mixer::tick::{Mixed, tick};
 use mixer_forms::{layout_of, put_frame, put_state, state_of};
+use refusals::answered;
+use replaying::{put_each, read, read_array, sum};
 
 const PART: usize = 596;
 
-const ANSWER: usize = 668;
+pub const ANSWER: usize = 668;
 
 const MOST_BYTES: usize = 65537;
 
@@ -35,129 +36,62 @@ const INTERMEDIATE: usize = 5120;
 
 const WORDS: usize = 61;
 
-fn mixes_of(part: &[u8]) -> [i32; MOST_VALUES]
-    requires { length part.now ≡ 596 }
+// The bytes of these words.
+const WORD_BYTES: usize = 244;
+
+fn size_at(part: &[u8; PART], at: usize) -> usize
+    requires { at ≤ 596 }
+    ensures { result < 2 ^ 32 }
 {
-    let mut values = [0i32; MOST_VALUES];
-    let mut i = 0;
-    while i < MOST_VALUES {
-        values[i] = numbers::whole::to_signed32(read32(part, 352 + i % WORDS * 4));
-        i += 1;
-    }
-    values
+    read::<4, u32>(&part[at..]) as usize
 }
 
-fn put_configuration(part: &[u8], bytes: &mut [u8; MOST_BYTES])
-    requires { length part.now ≡ 596 }
-{
-    let at = read32(part, 32) as usize;
-    if at > MOST_BYTES - CONFIGURATION {
-        return;
-    }
-    little::put(bytes, at, &part[64..108]);
+fn mixes_of(part: &[u8; PART]) -> [i32; MOST_VALUES] {
+    let words: [i32; WORDS] = read_array(&part[352..]);
+    std::array::from_fn(|i| words[i % WORDS])
 }
 
-fn put_intermediate(part: &[u8], bytes: &mut [u8; MOST_BYTES])
-    requires { length part.now ≡ 596 }
-{
-    let at = read32(part, 40) as usize;
-    if at > MOST_BYTES - INTERMEDIATE {
-        return;
+// Puts the configuration and the intermediate samples into the region that is read.
+fn put_read(part: &[u8; PART], bytes: &mut [u8; MOST_BYTES]) {
+    let at = size_at(part, 32);
+    if let Some(place) = bytes.get_mut(at..at + CONFIGURATION) {
+        place.copy_from_slice(&part[64..108]);
     }
-    let mut i = 0;
-    while i < INTERMEDIATE {
-        bytes[at + i] = part[108 + i % (WORDS * 4)];
-        i += 1;
+    let words = &part[108..352];
+    let at = size_at(part, 40);
+    if let Some(place) = bytes.get_mut(at..at + INTERMEDIATE) {
+        for (i, byte) in place.iter_mut().enumerate() {
+            *byte = words[i % WORD_BYTES];
+        }
     }
 }
 
-// A region's bytes, and what is behind it.
-fn region_of(part: &[u8], fill: u8, read: bool) -> [u8; MOST_BYTES]
-    requires { length part.now ≡ 596 }
-{
-    let mut bytes = [fill; MOST_BYTES];
-    if !read {
-        return bytes;
-    }
-    put_configuration(part, &mut bytes);
-    put_intermediate(part, &mut bytes);
-    bytes
+fn answer_of(mixed: Mixed, first: &[u8], second: &[u8]) -> [u8; ANSWER] {
+    let mut answer = [0u8; ANSWER];
+    answer[0] = answered(mixed.outcome);
+    put_state(mixed.mixer, answer[4..].first_chunk_mut().unwrap());
+    put_frame(&mixed.frame, answer[20..].first_chunk_mut().unwrap());
+    let sums = [sum(first, u32::from), sum(second, u32::from)];
+    put_each(&sums, &mut answer[660..]);
+    answer
 }
 
-// Makes the call with so many values for mixes.
-fn call(part: &[u8], many: usize, first: &mut [u8], second: &mut [u8]) -> Mixed
-    requires part_len { length part.now ≡ 596 }
-    requires many_bound { many ≤ 1921 }
-{
-    let read = read32(part, 56);
+pub fn answer(part: &[u8]) -> Option<[u8; ANSWER]> {
+    let part = part.as_array::<PART>()?;
+    let mut first = [part[60]; MOST_BYTES];
+    let mut second = [part[61]; MOST_BYTES];
+    let which = read(&part[56..]);
+    if which == 0 {
+        put_read(part, &mut first);
+    } else {
+        put_read(part, &mut second);
+    }
     let values = mixes_of(part);
-    mixer::tick::tick(
-        state_of(part),
-        layout_of(part, 16),
-        read,
-        first,
-        second,
-        &values[0..many],
-    )
-}
-
-fn put_mixed(mixed: Mixed, sums: [u32; 2], out: &mut [u8])
-    requires { 668 ≤ length out.old }
-{
-    let number = [mixed.number, 0, 0, 0];
-    little::put(out, 0, &number);
-    let state = mixed.mixer;
-    put_state(state, out, 4);
-    let frame = mixed.frame;
-    put_frame(&frame, out, 20);
-    little::write32(out, 660, sums[0]);
-    little::write32(out, 664, sums[1]);
-}
-
-// The sum over so many bytes, or all.
-fn sum_of(bytes: &[u8; MOST_BYTES], size: usize) -> u32 {
-    let all: &[u8] = bytes;
-    if size > MOST_BYTES {
-        return replaying::sum(all);
-    }
-    replaying::sum(&all[0..size])
-}
-
-// The answer for regions of so many bytes and so many values for mixes.
-fn put_answer(part: &[u8], one: usize, two: usize, many: usize, out: &mut [u8])
-    requires part_len { length part.now ≡ 596 }
-    requires one_bound { one ≤ 65537 }
-    requires two_bound { two ≤ 65537 }
-    requires many_bound { many ≤ 1921 }
-    requires in_bounds { 668 ≤ length out.old }
-{
-    let read = read32(part, 56);
-    let mut first = region_of(part, part[60], read == 0);
-    let mut second = region_of(part, part[61], read != 0);
-    let mixed = call(part, many, &mut first[0..one], &mut second[0..two]);
-    let sums = [sum_of(&first, one), sum_of(&second, two)];
-    put_mixed(mixed, sums, out);
-}
-
-pub fn answer(part: &[u8], out: &mut [u8]) -> usize
-    requires { 668 ≤ length out.old }
-    ensures { result ≤ 668 }
-{
-    if part.len() != PART {
-        return 0;
-    }
-    let one = read32(part, 44) as usize;
-    let two = read32(part, 48) as usize;
-    let many = read32(part, 52) as usize;
-    if one > MOST_BYTES {
-        return 0;
-    }
-    if two > MOST_BYTES {
-        return 0;
-    }
-    if many > MOST_VALUES {
-        return 0;
-    }
-    put_answer(part, one, two, many, out);
-    ANSWER
+    let first = first.get_mut(..size_at(part, 44))?;
+    let second = second.get_mut(..size_at(part, 48))?;
+    let given = values.get(..size_at(part, 52))?;
+    let state = state_of(part.first_chunk().unwrap());
+    let layout = layout_of(part[16..].first_chunk().unwrap());
+    let mixed = tick(state, layout, which, first, second, given);
+    Some(answer_of(mixed, first, second))
 }

@@ -1,16 +1,17 @@
 // The mixer's configuration, which a title writes.
-ghost use Rattle.std.specs.Prelude.{◌≡◌, not, cond, ◌+◌, ◌≤◌, ◌<◌, eqb, length};
-ghost use Rattle.little.specs.Little.{at16, at32};
+ghost use Rattle.std.specs.Prelude.{◌≡◌, cond, ◌+◌, ◌≤◌, ◌<◌, length};
 ghost use Rattle.fields.specs.Flags.{flagged};
-ghost use Rattle.numbers.specs.Bits.{gain};
 ghost use Rattle.mixer_state.specs.Configuration.{configuration_bytes, output_of, configured, cleared};
 
 use crate::{Mixer, Output};
 use fields::flags::flagged;
 use fields::mixer_config as config;
+use fields::mixer_config::CONFIG_SIZE;
 use little::{read16, read32, write32};
+use numbers::bits::gain_of;
 
-// Bits of the dirty word. Of the aux buses' bits the first is given, the second is twice that.
+// Bits of the dirty word, with the names and values of the source's `dirty`. They are numbers and no enum, since of the aux buses' bits the
+// first is given and the second is twice that.
 const AUX_BUS_ENABLE: u32 = 0x100;
 
 const MASTER_VOLUME: u32 = 0x1_0000;
@@ -19,67 +20,49 @@ const AUX_RETURN_VOLUME: u32 = 0x100_0000;
 
 const OUTPUT_FORMAT: u32 = 0x400_0000;
 
-// A volume: read where its bit is set.
-fn volume_at(bytes: &[u8], at: usize, flags: u32, bit: u32, old: f32) -> f32
-    requires at_in_bounds { at + 4 ≤ length bytes.now }
-    requires bit_nonzero { 0 < bit }
-    ensures { result ≡ cond (flagged flags bit) (gain (at32 bytes.now at)) old }
+// A field of the state: what the configuration has where the field's bit is set, else what it was.
+fn changed<T: Copy>(flags: u32, bit: u32, read: T, old: T) -> T
+    requires { 0 < bit }
+    ensures { result ≡ cond (flagged flags bit) read old }
 {
-    if flagged(flags, bit) {
-        return numbers::bits::gain_of(read32(bytes, at));
-    }
-    old
+    if flagged(flags, bit) { read } else { old }
 }
 
-// A switch: read where its bit is set.
-fn switch_at(bytes: &[u8], at: usize, flags: u32, bit: u32, old: bool) -> bool
-    requires at_in_bounds { at + 2 ≤ length bytes.now }
-    requires bit_nonzero { 0 < bit }
-    ensures { result ≡ cond (flagged flags bit) (not (eqb (at16 bytes.now at) 0)) old }
+// The output kind that the configuration has.
+fn output_of(bytes: &[u8; CONFIG_SIZE]) -> Output
+    ensures { result ≡ output_of bytes.now }
 {
-    if flagged(flags, bit) {
-        return read16(bytes, at) != 0;
+    if read16(bytes, config::OUTPUT_FORMAT) == 0 {
+        Output::Mono
+    } else {
+        Output::Stereo
     }
-    old
-}
-
-// The output kind: read where its bit is set.
-fn output_at(bytes: &[u8], flags: u32, old: Output) -> Output
-    requires { length bytes.now ≡ configuration_bytes }
-    ensures { result ≡ cond (flagged flags 0x400_0000) (output_of bytes.now) old }
-{
-    if flagged(flags, OUTPUT_FORMAT) {
-        if read16(bytes, config::OUTPUT_FORMAT) == 0 {
-            return Output::Mono;
-        }
-        return Output::Stereo;
-    }
-    old
 }
 
 // The state as the configuration's bytes change it.
-pub fn parse_config(mixer: Mixer, bytes: &[u8]) -> Mixer
-    requires { length bytes.now ≡ configuration_bytes }
+pub fn parse_config(mixer: Mixer, bytes: &[u8; CONFIG_SIZE]) -> Mixer
     ensures { result ≡ configured bytes.now mixer }
 {
     let flags = read32(bytes, config::DIRTY);
     if flags == 0 {
         return mixer;
     }
-    let v = mixer.volume;
-    let a = mixer.aux;
-    let o = mixer.output;
-    let master = volume_at(bytes, config::MASTER_VOLUME, flags, MASTER_VOLUME, v[0]);
-    let returned = config::AUX_RETURN_VOLUME;
-    let first = volume_at(bytes, returned, flags, AUX_RETURN_VOLUME, v[1]);
-    let second = volume_at(bytes, returned + 4, flags, AUX_RETURN_VOLUME * 2, v[2]);
-    let enable = config::AUX_BUS_ENABLE;
-    let on = switch_at(bytes, enable, flags, AUX_BUS_ENABLE, a[0]);
-    let also_on = switch_at(bytes, enable + 2, flags, AUX_BUS_ENABLE * 2, a[1]);
+    let master = gain_of(read32(bytes, config::MASTER_VOLUME));
+    let first = gain_of(read32(bytes, config::AUX_RETURN_VOLUME));
+    let second = gain_of(read32(bytes, config::AUX_RETURN_VOLUME + 4));
+    let on = read16(bytes, config::AUX_BUS_ENABLE) != 0;
+    let also_on = read16(bytes, config::AUX_BUS_ENABLE + 2) != 0;
     Mixer {
-        volume: [master, first, second],
-        aux: [on, also_on],
-        output: output_at(bytes, flags, o),
+        volume: [
+            changed(flags, MASTER_VOLUME, master, mixer.volume[0]),
+            changed(flags, AUX_RETURN_VOLUME, first, mixer.volume[1]),
+            changed(flags, AUX_RETURN_VOLUME * 2, second, mixer.volume[2]),
+        ],
+        aux: [
+            changed(flags, AUX_BUS_ENABLE, on, mixer.aux[0]),
+            changed(flags, AUX_BUS_ENABLE * 2, also_on, mixer.aux[1]),
+        ],
+        output: changed(flags, OUTPUT_FORMAT, output_of(bytes), mixer.output),
     }
 }
 

@@ -1,7 +1,7 @@
 // Of module 7, the mixer's state: what is kept from frame to frame, and the configuration that changes it. `parse_config` takes the state
 // by value and the configuration's 44 bytes and gives the state back, each field changed only where its bit of the dirty word is set;
-// `clear_dirty` then clears that word in the region. Nothing is refused: the lengths are required, which the mixer's call knows from an
-// accepted layout.
+// `clear_dirty` then clears that word in the region. Nothing is refused: that the region has room is required, which the mixer's call
+// knows from an accepted layout.
 #![tactic(auto)]
 
 pub mod configuration;
@@ -9,7 +9,7 @@ pub mod configuration;
 ghost use Rattle.std.specs.Prelude.{◌≡◌};
 ghost use Rattle.mixer_state.specs.State.{default_mixer};
 
-#[derive(Clone, Copy)]
+#[derive(Clone, Copy, PartialEq, Eq)]
 pub enum Output {
     Mono,
     Stereo,
@@ -25,12 +25,14 @@ pub struct Mixer {
 }
 
 // The state before the first frame.
-pub fn default_mixer() -> Mixer
-    ensures { result ≡ default_mixer }
-{
-    Mixer {
-        volume: [0.0, 0.0, 0.0],
-        aux: [false, false],
-        output: Output::Stereo,
+impl Default for Mixer {
+    ghost is_default = { λ m. m ≡ default_mixer };
+
+    fn default() -> Mixer {
+        Mixer {
+            volume: [0.0; 3],
+            aux: [false; 2],
+            output: Output::Stereo,
+        }
     }
 }

@@ -16,6 +16,7 @@ use lib.Ieee.Back.{round_whole}
 use Rattle.lists.proofs.Bools.{cond_no}
 use Rattle.numbers.specs.Casts.{cast_i16, double}
 use Rattle.numbers.specs.Literals.{+0}
+use Rattle.numbers.specs.Reals.{shape_64}
 use Rattle.numbers.proofs.Value.{add_value, sub_value, mul_value, int_value, below_0}
 use Rattle.numbers.proofs.Holding.{signed_back}
 use Rattle.mixing.specs.Interpolate.{interpolate}
@@ -89,4 +90,4 @@ interpolate_at_zero a b t ha hb e =
     let p = product_zero (sub binary64 (double b) (double a)) t w (zero_value t e) in
     ap cast_i16 (add_value binary64 (double a) (mul binary64 (sub binary64 (double b) (double a)) t) (below_0 a) p.0 (nat_abs a) 0 1
     (zero-lt-suc 0) va p.1 ∙ sum_zero binary64 a p.0)
-    ∙ (signed_back a ha).1
+    ∙ (signed_back shape_64 a ha).1

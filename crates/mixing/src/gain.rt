@@ -2,13 +2,13 @@
 ghost use Rattle.std.specs.Prelude.{◌≡◌, ◌<◌};
 ghost use Rattle.mixing.specs.Gain.{at_gain, fading};
 
-use numbers::casts::{cast_i32, single_of_i16};
+use numbers::casts::cast_i32;
 
 // At a steady gain.
 pub fn at_gain(gain: f32, sample: i16) -> i32
     ensures { result ≡ at_gain gain sample }
 {
-    cast_i32(gain * single_of_i16(sample))
+    cast_i32(gain * f32::from(sample))
 }
 
 // At place i of a frame over which the gain fades.
@@ -17,5 +17,5 @@ pub fn fading(from: f32, to: f32, i: usize, sample: i16) -> i32
     ensures { result ≡ fading from to i sample }
 {
     let progress = (i as f32) / 159.0;
-    cast_i32((from + (to - from) * progress) * single_of_i16(sample))
+    cast_i32((from + (to - from) * progress) * f32::from(sample))
 }

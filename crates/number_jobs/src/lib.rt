@@ -1,34 +1,85 @@
 // Test only: the port's functions on numbers alone, under one name. `number` takes a kind and three words of 64 bits, and gives a word; the
 // replay program and the functions that the oracle calls share it. A signed number is in the lower bits of its word, a float by its bits,
-// yes is 1. What a kind does not name is not looked at. The kinds:
-//  0  the frame counters a and b: the region chosen
-//  1  the four bytes of a dsp32, as a little-endian word a: its value
-//  2  the value a: the four bytes of its dsp32, as a little-endian word
-//  3  a window's base a and length b: number 4 or 0
-//  4  the single a to 32 bits, signed
-//  5  the double a to 16 bits, signed
-//  6  the double a to 32 bits, unsigned
-//  7  the signed 32 bits a to a single
-//  8  the bits a as a gain, a single
-//  9  the bits a as a rate, a double
-// 10  whether the single a is finite
-// 11  whether the double a is a rate
-// 12  whether the double a is a fraction
-// 13  what the sample b adds at the gain a
-// 14  what a sample adds that fades from the gain a to b; c is the sample, and 65,536 times its place in the frame
-// 15  the sample at the fraction c between the samples a and b
-// Any other kind gives 0.
+// yes is 1. What a kind does not name is not looked at.
 #![tactic(auto)]
 
 use numbers::casts;
-use numbers::whole::{to_bits16, to_bits32, to_signed16, to_signed32};
-use replaying::{bits32, bits64, double};
+use numbers::sizes::FRAME_SAMPLES;
+use refusals::answered;
+use std::num::{
+    f32_from_bits_with_nan, f32_to_bits_with_nan, f64_from_bits_with_nan, f64_to_bits_with_nan,
+};
+
+// What is asked.
+#[derive(Clone, Copy)]
+pub enum Kind {
+    // the frame counters a and b: the region chosen
+    Region = 0,
+    // the four bytes of a dsp32, as a little-endian word a: its value
+    Dsp32Value = 1,
+    // the value a: the four bytes of its dsp32, as a little-endian word
+    Dsp32Bytes = 2,
+    // a window's base a and length b: number 4 or 0
+    Window = 3,
+    // the single a to 32 bits, signed
+    SingleToSigned32 = 4,
+    // the double a to 16 bits, signed
+    DoubleToSigned16 = 5,
+    // the double a to 32 bits, unsigned
+    DoubleToUnsigned32 = 6,
+    // the signed 32 bits a to a single
+    Signed32ToSingle = 7,
+    // the bits a as a gain, a single
+    Gain = 8,
+    // the bits a as a rate, a double
+    Rate = 9,
+    // whether the single a is finite
+    IsFinite = 10,
+    // whether the double a is a rate
+    IsRate = 11,
+    // whether the double a is a fraction
+    IsFraction = 12,
+    // what the sample b adds at the gain a
+    AtGain = 13,
+    // what a sample adds that fades from the gain a to b; c is the sample, and 65,536 times its place in the frame
+    Fading = 14,
+    // the sample at the fraction c between the samples a and b
+    Between = 15,
+}
+
+// A number that no kind has.
+#[derive(Clone, Copy)]
+pub struct NoKind;
+
+impl TryFrom<u32> for Kind {
+    type Error = NoKind;
+
+    fn try_from(number: u32) -> Result<Kind, NoKind> {
+        match number {
+            0 => Ok(Kind::Region),
+            1 => Ok(Kind::Dsp32Value),
+            2 => Ok(Kind::Dsp32Bytes),
+            3 => Ok(Kind::Window),
+            4 => Ok(Kind::SingleToSigned32),
+            5 => Ok(Kind::DoubleToSigned16),
+            6 => Ok(Kind::DoubleToUnsigned32),
+            7 => Ok(Kind::Signed32ToSingle),
+            8 => Ok(Kind::Gain),
+            9 => Ok(Kind::Rate),
+            10 => Ok(Kind::IsFinite),
+            11 => Ok(Kind::IsRate),
+            12 => Ok(Kind::IsFraction),
+            13 => Ok(Kind::AtGain),
+            14 => Ok(Kind::Fading),
+            15 => Ok(Kind::Between),
+            _ => Err(NoKind),
+        }
+    }
+}
 
 const HALVES: u64 = 0x1_0000;
 
 const WORDS: u64 = 0x1_0000_0000;
-
-const FRAME_SAMPLES: u64 = 160;
 
 fn half(a: u64) -> u16 {
     (a % HALVES) as u16
@@ -39,52 +90,70 @@ fn word(a: u64) -> u32 {
 }
 
 fn sample(a: u64) -> i16 {
-    to_signed16(half(a))
+    half(a).cast_signed()
 }
 
 fn single(a: u64) -> f32 {
-    replaying::single(word(a))
+    f32_from_bits_with_nan(word(a))
+}
+
+fn double(a: u64) -> f64 {
+    f64_from_bits_with_nan(a)
+}
+
+// The lower bits of a signed number, and those of a single.
+fn bits16(value: i16) -> u64 {
+    u64::from(value.cast_unsigned())
+}
+
+fn bits32(value: i32) -> u64 {
+    u64::from(value.cast_unsigned())
+}
+
+fn bits_of(value: f32) -> u64 {
+    u64::from(f32_to_bits_with_nan(value))
 }
 
 fn dsp32_of(bytes: u32) -> u32 {
-    let mut four = [0u8; 4];
-    little::write32(&mut four, 0, bytes);
-    little::read_dsp32(&four, 0)
+    little::read_dsp32(&bytes.to_le_bytes(), 0)
 }
 
 fn dsp32_bytes(value: u32) -> u32 {
     let mut four = [0u8; 4];
     little::write_dsp32(&mut four, 0, value);
-    little::read32(&four, 0)
+    u32::from_le_bytes(four)
 }
 
-fn faded(from: u64, to: u64, c: u64) -> u32 {
-    let place = (c / HALVES % FRAME_SAMPLES) as usize;
-    to_bits32(mixing::gain::fading(single(from), single(to), place, sample(c)))
+fn faded(from: u64, to: u64, c: u64) -> i32 {
+    let place = (c / HALVES) as usize % FRAME_SAMPLES;
+    mixing::gain::fading(single(from), single(to), place, sample(c))
 }
 
-fn between(a: u64, b: u64, fraction: u64) -> u16 {
-    to_bits16(mixing::interpolate::interpolate(sample(a), sample(b), double(fraction)))
-}
-
-pub fn number(kind: u32, a: u64, b: u64, c: u64) -> u64 {
+fn number_of(kind: Kind, a: u64, b: u64, c: u64) -> u64 {
     match kind {
-        0 => region::current_region(half(a), half(b)) as u64,
-        1 => dsp32_of(word(a)) as u64,
-        2 => dsp32_bytes(word(a)) as u64,
-        3 => window::window_number(word(a), b as usize) as u64,
-        4 => to_bits32(casts::cast_i32(single(a))) as u64,
-        5 => to_bits16(casts::cast_i16(double(a))) as u64,
-        6 => casts::cast_u32(double(a)) as u64,
-        7 => bits32(casts::single_of_i32(to_signed32(word(a)))) as u64,
-        8 => bits32(numbers::bits::gain_of(word(a))) as u64,
-        9 => bits64(numbers::bits::rate_of(word(a))),
-        10 => numbers::tests::is_finite(single(a)) as u64,
-        11 => numbers::tests::is_rate(double(a)) as u64,
-        12 => numbers::tests::is_fraction(double(a)) as u64,
-        13 => to_bits32(mixing::gain::at_gain(single(a), sample(b))) as u64,
-        14 => faded(a, b, c) as u64,
-        15 => between(a, b, c) as u64,
-        _ => 0,
+        Kind::Region => u64::from(u32::from(region::current_region(half(a), half(b)))),
+        Kind::Dsp32Value => u64::from(dsp32_of(word(a))),
+        Kind::Dsp32Bytes => u64::from(dsp32_bytes(word(a))),
+        Kind::Window => u64::from(answered(window::accept(word(a), b as usize))),
+        Kind::SingleToSigned32 => bits32(casts::cast_i32(single(a))),
+        Kind::DoubleToSigned16 => bits16(casts::cast_i16(double(a))),
+        Kind::DoubleToUnsigned32 => u64::from(casts::cast_u32(double(a))),
+        Kind::Signed32ToSingle => bits_of(casts::single_of_i32(word(a).cast_signed())),
+        Kind::Gain => bits_of(numbers::bits::gain_of(word(a))),
+        Kind::Rate => f64_to_bits_with_nan(numbers::bits::rate_of(word(a))),
+        Kind::IsFinite => u64::from(numbers::tests::is_finite(single(a))),
+        Kind::IsRate => u64::from(numbers::tests::is_rate(double(a))),
+        Kind::IsFraction => u64::from(numbers::tests::is_fraction(double(a))),
+        Kind::AtGain => bits32(mixing::gain::at_gain(single(a), sample(b))),
+        Kind::Fading => bits32(faded(a, b, c)),
+        Kind::Between => bits16(mixing::interpolate::interpolate(sample(a), sample(b), double(c))),
+    }
+}
+
+// What the kind of this number gives, or 0 where no kind has it.
+pub fn number(kind: u32, a: u64, b: u64, c: u64) -> u64 {
+    match Kind::try_from(kind) {
+        Ok(kind) => number_of(kind, a, b, c),
+        Err(NoKind) => 0,
     }
 }

@@ -80,11 +80,11 @@ is_fits w {z} {x} {A} h k = record { sfits = lt_of_le_of_lt (le_trans (mag_abs x
 pub is_read : (w : Width) {z x : ℤ} {A : ℕ} → Is A z x → T (ltb A (2 ^ hbits w)) → Is A z (to_z w (of_z w x))
 is_read w {z} {x} {A} h k = subst (λ (y : ℤ). Is A z y) (sym (to_z-of_z (is_fits w h k))) h
 
--- a parameter or a result as the code reads it
-pub is_param : {w : Width} {z : ℤ} → SFits w z → Is (2 ^ hbits w) z (to_z w (of_z w z))
-is_param {w} {z} h = record {
-  is = to_z-of_z h;
-  abs = subst (λ (y : ℤ). nat_abs y ≤ 2 ^ hbits w) (sym (to_z-of_z h)) (nat_abs-le z h.sfits);
+-- a number widened by `From`, with the bound of its own type
+pub is_wide : {w : Width} {z x : ℤ} → SFits w z → x ≡ to_z w (of_z w z) → Is (2 ^ hbits w) z x
+is_wide {w} {z} {x} h e = record {
+  is = e ∙ to_z-of_z h;
+  abs = subst (λ (y : ℤ). nat_abs y ≤ 2 ^ hbits w) (sym (e ∙ to_z-of_z h)) (nat_abs-le z h.sfits);
 }
 
 -- a number of the program's own
@@ -94,10 +94,6 @@ is_pos n = record { is = refl; abs = le_refl n }
 -- the same number by another name
 pub is_of : {y z x : ℤ} {A : ℕ} → z ≡ y → Is A z x → Is A y x
 is_of e h = record { is = h.is ∙ e; abs = h.abs }
-
--- what a callee ensures of a parameter that was passed on, said of the parameter
-pub is_arg : {w : Width} {z x : ℤ} {A : ℕ} → SFits w z → Is A (to_z w (of_z w z)) x → Is A z x
-is_arg h k = is_of (to_z-of_z h) k
 
 -- a call's result as the code reads it
 pub result_read : (w : Width) (z : ℤ) → mag z < 2 ^ hbits w → to_z w (of_z w z) ≡ z

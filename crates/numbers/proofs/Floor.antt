@@ -1,7 +1,7 @@
 -- The whole part of a number from 0 to M by two additions, in either format: at 2 ^ h and above (h = 23 in f32, 52 in f64) it has no digit
 -- below 1, so a + 2 ^ h is a whole number next to it, and 2 ^ h comes off it exactly. What is left is the whole part, or one more where it
 -- lies above a. Assumes nothing.
-use Rattle.std.proofs.Common.{◌≡◌, ℕ, zero, suc, ◌+◌, ◌-◌, ◌*◌, ◌/◌, ◌^◌, ◌<◌, ◌≤◌, Bool, true, false, ◌&&◌, ltb, ℤ, pos, neg_ℤ, sym, refl, ap, ◌∙◌, subst, le_trans, le_of_eq, lt_of_lt_of_le, lt_of_le_of_lt, mul-le-mul_right, zero-lt-suc, mul_assoc, mul_comm, div-lt_iff_lt-mul, add-mul, lt_of_mul-lt-mul_right, mul-lt-mul_of_pos_right, mul-pos, one-mul, le-div_iff_mul-le, zero-add, zero-mul, mul-one, mul_right_comm, div-mul-le_self, le_of_mul-le-mul_right, arith, pow_pos, pow_mono, pow-add, ltb-false, ltb-true, le-ltb, lt-ltb}
+use Rattle.std.proofs.Common.{◌≡◌, ℕ, suc, ◌+◌, ◌-◌, ◌*◌, ◌/◌, ◌^◌, ◌<◌, ◌≤◌, Bool, true, false, ◌&&◌, ltb, ℤ, pos, sym, refl, ap, ◌∙◌, subst, le_trans, le_of_eq, lt_of_lt_of_le, lt_of_le_of_lt, mul-le-mul_right, zero-lt-suc, mul_assoc, mul_comm, div-lt_iff_lt-mul, add-mul, lt_of_mul-lt-mul_right, mul-lt-mul_of_pos_right, mul-pos, one-mul, le-div_iff_mul-le, zero-add, zero-mul, mul-one, mul_right_comm, div-mul-le_self, le_of_mul-le-mul_right, arith, pow_pos, pow_mono, pow-add, ltb-false, ltb-true, le-ltb, lt-ltb}
 use native.Mathlib.Nat.{eq_of_mul-eq-mul_right, pow-succ'}
 use lib.Ieee.{Float, nan, inf, fin, Format, prec, emax, low, up, down, round, sum, add, sub, of_int, lt, below}
 use lib.Ieee.Fits.{down_pos}
@@ -10,7 +10,6 @@ use lib.Ieee.Order.{drop, kept}
 use lib.Ieee.Scale.{grid, overflow}
 use lib.Ieee.Back.{round_whole}
 use Rattle.lists.proofs.Bools.{cond_yes}
-use Rattle.numbers.specs.Literals.{+0}
 use Rattle.numbers.specs.Held.{Upto, whole_of}
 use Rattle.numbers.proofs.Cell.{drops_all, cell_le, cell_ge, round_value}
 use Rattle.numbers.proofs.Value.{add_value, sub_value}
@@ -181,7 +180,6 @@ pub record Floored (f : Format) (h M : ℕ) (a : Float) : Type 0 where
   pub k : ℕ
   pub is : sub f (add f a (big h)) (big h) ≡ of_int f (pos k)
   pub most : k ≤ M + 1
-  pub whole_most : whole_of a ≤ M
   pub over : lt a (of_int f (pos k)) ≡ true → k ≡ whole_of a + 1
   pub not_over : lt a (of_int f (pos k)) ≡ false → k ≡ whole_of a
 
@@ -189,23 +187,10 @@ pub whole_value : (f : Format) (k : ℕ) → k ≤ 2 ^ prec f → HasValue (of_i
 unfolding of_int
 whole_value f k h = round_whole f false k h
 
--- a float of the value j off a whole number, and a whole number off 0
+-- a float of the value j off a whole number
 pub sub_whole :
     (f : Format) (k j : ℕ) (y : Float) → k ≤ 2 ^ prec f → j ≤ k → HasValue y false j 1 → sub f (of_int f (pos k)) y ≡ of_int f (pos (k - j))
 sub_whole f k j y few l v = sub_value f (of_int f (pos k)) y false false k j 1 (zero-lt-suc 0) (whole_value f k few) v ∙ off_exact f k j l
-
-minus : (f : Format) (k : ℕ) → sum f false 0 true k 1 ≡ of_int f (neg_ℤ (pos k))
-unfolding sum of_int
-minus f zero = refl
-minus f (suc k) =
-    cond_yes (round f true (suc k - 0) 1) (round f (false && ltb (suc k) 0) (0 - suc k) 1) (lt-ltb 0 (suc k) (zero-lt-suc k))
-    ∙ ap (λ (x : ℕ). round f true x 1) all
-  where
-    all : suc k - 0 ≡ suc k
-    all = omega arith
-
-pub minus_whole : (f : Format) (k : ℕ) → k ≤ 2 ^ prec f → sub f +0 (of_int f (pos k)) ≡ of_int f (neg_ℤ (pos k))
-minus_whole f k few = sub_value f +0 (of_int f (pos k)) false false 0 k 1 (zero-lt-suc 0) (refl, refl) (whole_value f k few) ∙ minus f k
 
 pub floored : (f : Format) (h : ℕ) → prec f ≡ suc h → h ≤ emax f → (M : ℕ) → M + 1 < 2 ^ h → (a : Float) → Upto M a → Floored f h M a
 floored f h P E M fit nan u = absurd u
@@ -229,7 +214,6 @@ floored f h P E M fit (fin s m e) u =
           (refl, ap (λ (x : ℕ). x * q) (one-mul b) ∙ sym (mul-one (b * q))) ∙ on f h P E s p q Q u.0)
           ∙ taken_off f h P E M fit p q Q u.1;
       most = omega arith;
-      whole_most = l;
       over = λ t. (
           let l : p / q < k = lt_of_mul-lt-mul_right q (lt_of_le_of_lt (div-mul-le_self p q) (ltb-true p (k * q) (sym test ∙ t))) in
           omega arith);

@@ -1,42 +1,19 @@
 -- The tests of a float as the code makes them, and as other laws of floats take them, are the tests defined: shown by the kinds of float.
 -- Assumes nothing.
-use Rattle.std.proofs.Common.{◌≡◌, ℕ, zero, suc, ◌+◌, ◌*◌, Bool, true, false, not, ◌&&◌, ◌||◌, T, eqb, ltb, ℤ, sym, refl, ◌∙◌, subst, true≢false, zero-lt-suc, arith, eqb→eq, le-ltb, lt-ltb, ne_eqb}
+use Rattle.std.proofs.Common.{◌≡◌, ℕ, zero, suc, ◌+◌, ◌*◌, Bool, true, false, not, ◌&&◌, ◌||◌, T, eqb, ltb, ℤ, sym, refl, subst, true≢false, zero-lt-suc, arith, eqb→eq, le-ltb, lt-ltb, ne_eqb}
 use lib.Ieee.{Float, nan, inf, fin, up, down, lt, le, eq, is_nan}
+use Rattle.std.specs.Float.{float_is_finite}
 use lib.Ieee.Fits.{and_l}
 use lib.Ieee.Scale.{finite}
-use Rattle.lists.proofs.Bools.{and_yes, and_no}
 use Rattle.numbers.specs.Literals.{+0}
-use Rattle.numbers.specs.Tests.{is_rate, is_fraction}
+use Rattle.numbers.specs.Tests.{is_fraction}
 
--- ---- finite: below an infinity and above the other
-pub finite_not_below : (x : Float) → lt x (inf false) ≡ false → finite x ≡ false
-unfolding lt
-finite_not_below nan h = refl
-finite_not_below (inf s) h = refl
-finite_not_below (fin s m e) h = h
-
-pub finite_below : (x : Float) → lt x (inf false) ≡ true → lt (inf true) x ≡ finite x
-unfolding lt
-finite_below nan h = refl
-finite_below (inf true) h = refl
-finite_below (inf false) h = sym h
-finite_below (fin s m e) h = refl
-
--- ---- a rate: above 0 and below the infinity
-finite_above : (x : Float) → lt +0 x ≡ true → lt x (inf false) ≡ finite x
-unfolding lt
-finite_above nan h = refl
-finite_above (inf true) h = sym h
-finite_above (inf false) h = refl
-finite_above (fin s m e) h = refl
-
-pub rate_above : (x : Float) → lt +0 x ≡ true → lt x (inf false) ≡ is_rate x
-unfolding is_rate
-rate_above x h = finite_above x h ∙ sym (and_yes (finite x) h)
-
-pub rate_not_above : (x : Float) → lt +0 x ≡ false → is_rate x ≡ false
-unfolding is_rate
-rate_not_above x h = and_no (finite x) h
+-- ---- finite, as std has it
+pub finite_is : (x : Float) → float_is_finite x ≡ finite x
+unfolding float_is_finite
+finite_is nan = refl
+finite_is (inf s) = refl
+finite_is (fin s m e) = refl
 
 -- ---- a fraction: 0 or above, where -0 is not below 0
 zed : (d : ℕ) → 0 * 1 * d ≡ 0

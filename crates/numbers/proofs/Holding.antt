@@ -1,16 +1,20 @@
 -- A float held to what 16 bits reach is small, and its whole part with the sign back is the cast clamped to 16 bits. By the kinds of float.
 -- Assumes nothing.
-use Rattle.std.proofs.Common.{◌≡◌, ℕ, zero, suc, ◌+◌, ◌*◌, ◌/◌, ◌^◌, ◌<◌, ◌≤◌, min, Bool, true, false, cond, T, ltb, ℤ, pos, negsuc, neg_ℤ, sym, refl, ap, ◌∙◌, subst, ⊎_elim, true≢false, div-lt_iff_lt-mul, le-div_iff_mul-le, arith, lit≤, le→leb, lt→ltb, ltb-false, ltb-true, le-ltb, lt-ltb, eq-eqb}
+use Rattle.std.proofs.Common.{◌≡◌, ℕ, zero, suc, ◌+◌, ◌-◌, ◌*◌, ◌/◌, ◌^◌, ◌<◌, ◌≤◌, min, Bool, true, false, T, ltb, ℤ, pos, negsuc, neg_ℤ, nat_abs, sym, refl, ap, ◌∙◌, subst, ⊎_elim, true≢false, lt_of_lt_of_le, le_trans, mul-le-mul_right, pow_mono, div-lt_iff_lt-mul, le-div_iff_mul-le, arith, lit≤, le→leb, lt→ltb, ltb-false, ltb-true, le-ltb, lt-ltb, eq-eqb}
 use native.Mathlib.Nat.{zero-div}
 use lib.Signed.{mag}
 use lib.Ieee.Back.{positive_back, negative_back}
-use Rattle.numbers.proofs.Floor.{minus_whole}
-use lib.Ieee.{Float, nan, inf, fin, up, down, lt, eq, neg, sub, of_int, in_signed, in_float, binary64, to_signed, to_unsigned}
+use Rattle.numbers.proofs.Floor.{Floored, floored, sub_whole}
+use lib.Ieee.{Float, nan, inf, fin, Format, prec, up, down, lt, eq, neg, add, sub, of_int, in_signed, in_float, to_signed, to_unsigned}
 use lib.Ieee.Fits.{down_pos}
 use Rattle.lists.proofs.Walk.{below_or}
-use Rattle.numbers.specs.Literals.{+0}
-use Rattle.numbers.specs.Held.{top, bottom, at_most, held, size_of, Upto, Small, whole_of, with_sign, at_least_0, top_u32}
+use Rattle.numbers.specs.Literals.{+0, +1}
+use Rattle.numbers.specs.Held.{top, bottom, at_most, at_least, held, size_of, Upto, Small, whole_of, with_sign, at_least_0, top_u32}
+use Rattle.numbers.specs.Within.{Is}
+use Rattle.numbers.specs.Reals.{Shape}
 use Rattle.numbers.specs.Wrap.{clamp16}
+use Rattle.lists.proofs.Bools.{cond_yes, cond_no}
+use Rattle.std.specs.Prelude.{if◌then◌else◌}
 
 clamp_pos : (k : ℕ) → k ≤ 32767 → clamp16 (pos k) ≡ pos k
 clamp_pos k h = rw (le-ltb 32767 k h)
@@ -164,6 +168,18 @@ holds (inf false) = from (inf false) top top refl refl ((λ (u : false ≡ true)
 holds (fin false m e) = positive_case m e (lt (fin false m e) top) refl
 holds (fin true m e) = negative_case m e (lt bottom (fin true m e)) (lt (fin true m e) +0) refl refl
 
+-- what the code holds, by its own tests
+pub held_number :
+    (x high low most within : Float) → high ≡ top → low ≡ bottom → most ≡ at_most high x → within ≡ at_least low most → eq x x ≡ true
+    → within ≡ held x
+unfolding held
+held_number x high low most within H L M W t =
+    W ∙ (λ i. at_least (L i) ((M ∙ ap (λ (b : Float). at_most b x) H) i)) ∙ sym (cond_yes (at_least bottom (at_most top x)) +0 t)
+
+pub held_none : (x none : Float) → none ≡ +0 → eq x x ≡ false → none ≡ held x
+unfolding held
+held_none x none Z t = Z ∙ sym (cond_no (at_least bottom (at_most top x)) +0 t)
+
 -- the cast to 32 bits, clamped to 16, is the cast to 16
 pub clamped_cast : (x : Float) → clamp16 (to_signed 31 x) ≡ to_signed 15 x
 unfolding to_signed
@@ -249,35 +265,86 @@ upto_u32 x = (holds_u x).upto
 pub whole_u32_is : (x : Float) → whole_of (at_most top_u32 (at_least_0 x)) ≡ to_unsigned 32 x
 whole_u32_is x = (holds_u x).is
 
--- a number of 16 bits as an f64 and back
-pub signed_back : (z : ℤ) → mag z < 2 ^ 15 → T (in_signed binary64 15 (of_int binary64 z)) × (to_signed 15 (of_int binary64 z) ≡ z)
-unfolding in_float
-signed_back (pos n) h = positive_back binary64 15 n (le→leb n (2 ^ 53) (omega arith)) h
-signed_back (negsuc k) h = negative_back binary64 15 k (lt→ltb k (2 ^ 53) (omega arith)) (omega arith)
+-- ---- through floats of either format
+module _ {f : Format} {h M : ℕ} (t : Shape f h M) where
+  -- 16 bits and the whole parts fit the digits of the format
+  room : M + 1 < 2 ^ prec f
+  room = lt_of_lt_of_le t.reach_lt (pow_mono {i = h} {j = prec f} (subst (λ (n : ℕ). h ≤ n) (sym t.prec_is) (le_suc h)))
+    where
+      le_suc : (n : ℕ) → n ≤ suc n
+      le_suc n = omega arith
 
--- the size of what is held fits the whole part of an f64, and the sign comes back by a difference
-pub wide_enough : (a : Float) → Small a → Upto 4294967295 a
-wide_enough nan h = h
-wide_enough (inf s) h = h
-wide_enough (fin s m e) h = (h.0, omega (arith, h.1))
+  -- a number of 16 bits as a float and back
+  pub signed_back : (z : ℤ) → mag z < 2 ^ 15 → T (in_signed f 15 (of_int f z)) × (to_signed 15 (of_int f z) ≡ z)
+  unfolding in_float
+  signed_back (pos n) l = positive_back f 15 n (le→leb n (2 ^ prec f) (omega (arith, room, t.reach_ge))) l
+  signed_back (negsuc k) l = negative_back f 15 k (lt→ltb k (2 ^ prec f) (omega (arith, room, t.reach_ge))) (omega arith)
 
-few_whole : (a : Float) → Small a → whole_of a ≤ 2 ^ 53
-few_whole nan h = absurd h
-few_whole (inf s) h = absurd h
-few_whole (fin s m e) h =
-    let k : m * up e / down e < 32769 = (div-lt_iff_lt-mul (down_pos e)).1 (omega (arith, h.1, down_pos e)) in
-    omega arith
+  -- the size of what is held has a whole part that is found
+  pub wide_enough : (a : Float) → Small a → Upto M a
+  wide_enough nan u = u
+  wide_enough (inf s) u = u
+  wide_enough (fin s m e) u = (u.0, le_trans u.1 (mul-le-mul_right (down e) t.reach_ge))
 
-pub signed_whole :
-    (x : Float) → cond (lt (held x) +0) (sub binary64 +0 (of_int binary64 (pos (whole_of (size_of (held x))))))
-    (of_int binary64 (pos (whole_of (size_of (held x))))) ≡ of_int binary64 (to_signed 15 x)
-signed_whole x = go (lt (held x) +0) ∙ ap (of_int binary64) ((holds x).is ∙ clamped_cast x)
-  where
-    k : ℕ
-    k = whole_of (size_of (held x))
+  -- and one that 16 bits hold
+  few_whole : (a : Float) → Small a → whole_of a ≤ 32768
+  few_whole nan u = absurd u
+  few_whole (inf s) u = absurd u
+  few_whole (fin s m e) u =
+      let k : m * up e / down e < 32769 = (div-lt_iff_lt-mul (down_pos e)).1 (omega (arith, u.1, down_pos e)) in
+      omega arith
 
-    go :
-        (b : Bool) → cond b (sub binary64 +0 (of_int binary64 (pos k))) (of_int binary64 (pos k)) ≡ of_int binary64
-        (cond b (neg_ℤ (pos k)) (pos k))
-    go true = minus_whole binary64 k (few_whole (size_of (held x)) (holds x).small)
-    go false = refl
+  whole_back :
+      (a : Float) → Small a
+      → T (in_signed f 31 (of_int f (pos (whole_of a)))) × (to_signed 31 (of_int f (pos (whole_of a))) ≡ pos (whole_of a))
+  unfolding in_float
+  whole_back a u =
+      let l : whole_of a ≤ 32768 = few_whole a u in
+      positive_back f 31 (whole_of a) (le→leb (whole_of a) (2 ^ prec f) (omega (arith, room, t.reach_ge))) (omega arith)
+
+  pub whole_in : (a y : Float) → Small a → y ≡ of_int f (pos (whole_of a)) → T (in_signed f 31 y)
+  whole_in a y u Y = subst (λ (y : Float). T (in_signed f 31 y)) (sym Y) (whole_back a u).0
+
+  pub whole_cast : (a y : Float) (n : ℤ) → Small a → y ≡ of_int f (pos (whole_of a)) → n ≡ to_signed 31 y → Is 32768 (pos (whole_of a)) n
+  whole_cast a y n u Y N =
+      let e = N ∙ ap (to_signed 31) Y ∙ (whole_back a u).1 in
+      record { is = e; abs = subst (λ (z : ℤ). nat_abs z ≤ 32768) (sym e) (few_whole a u) }
+
+  -- the whole part by two additions, and one off where that lies above
+  module _ (a b n o : Float) (u : Upto M a) (B : b ≡ fin false 1 (pos h)) (N : n ≡ sub f (add f a b) b)
+      (O : o ≡ (if lt a n then +1 else +0)) where
+    abbrev l : Floored f h M a
+    l = floored f h t.prec_is t.digits_le_emax M t.reach_lt a u
+
+    near_is : n ≡ of_int f (pos l.k)
+    near_is = N ∙ (λ i. sub f (add f a (B i)) (B i)) ∙ l.is
+
+    few : l.k ≤ 2 ^ prec f
+    few = omega (arith, l.most, room)
+
+    lowered : (c : Bool) → lt a n ≡ c → sub f n (if c then +1 else +0) ≡ of_int f (pos (whole_of a))
+    lowered true c =
+        let one_more : l.k ≡ whole_of a + 1 = l.over (ap (lt a) (sym near_is) ∙ c) in
+        let same : l.k - 1 ≡ whole_of a = omega arith in
+        ap (λ (x : Float). sub f x +1) near_is ∙ sub_whole f l.k 1 +1 few (omega arith) (refl, refl)
+        ∙ ap (λ (x : ℕ). of_int f (pos x)) same
+    lowered false c =
+        let as_it_is : l.k ≡ whole_of a = l.not_over (ap (lt a) (sym near_is) ∙ c) in
+        let same : l.k - 0 ≡ whole_of a = omega arith in
+        ap (λ (x : Float). sub f x +0) near_is ∙ sub_whole f l.k 0 +0 few (omega arith) (refl, refl)
+        ∙ ap (λ (x : ℕ). of_int f (pos x)) same
+
+    pub whole_is : sub f n o ≡ of_int f (pos (whole_of a))
+    whole_is = ap (sub f n) O ∙ lowered (lt a n) refl
+
+-- the size of what is held, by the names that the code has for it
+pub small_size : (x z a : Float) → z ≡ held x → a ≡ size_of z → Small a
+small_size x z a Z A = subst Small (sym (A ∙ ap (λ (z : Float). size_of z) Z)) (holds x).small
+
+-- and its whole part with the sign back
+pub signed_is :
+    (x z a : Float) (n : ℤ) → z ≡ held x → a ≡ size_of z → Is 32768 (pos (whole_of a)) n → with_sign z n ≡ clamp16 (to_signed 31 x)
+signed_is x z a n Z A N =
+    ap (λ (k : ℤ). with_sign z k) (N.is ∙ ap (λ (a : Float). pos (whole_of a)) A)
+    ∙ ap (λ (z : Float). with_sign z (pos (whole_of (size_of z)))) Z
+    ∙ (holds x).is

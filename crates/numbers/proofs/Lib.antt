@@ -1,11 +1,8 @@
 pub mod Bounds
-pub mod Clamp
 pub mod Forms
 pub mod Literals
 pub mod Modular
-pub mod Patterns
 pub mod Ranges
-pub mod Saturate
 pub mod Wraps
 pub mod Cell
 pub mod Floor

@@ -1,6 +1,6 @@
 -- Sums that wrap: wrapping in between makes no difference, since it keeps the remainder by 2 ^ 32, so wrapped sums may be taken in any
--- order and grouping, and 32 bits hold each. Assumes nothing.
-use Rattle.std.proofs.Common.{◌≡◌, ℕ, suc, ◌+◌, ◌-◌, ◌%◌, ◌<◌, ◌≤◌, ℤ, pos, negsuc, ◌+ℤ◌, sym, ap, ◌∙◌, subst, ⊎_elim, arith, w32, SFits, le-ltb, lt-ltb}
+-- order and grouping. Assumes nothing.
+use Rattle.std.proofs.Common.{◌≡◌, ℕ, suc, ◌+◌, ◌-◌, ◌%◌, ◌<◌, ◌≤◌, ℤ, pos, negsuc, ◌+ℤ◌, sym, ap, ◌∙◌, ⊎_elim, arith, le-ltb, lt-ltb}
 use lib.IntN.{sub_ℕ, +ℤ_comm, +ℤ_assoc}
 use Rattle.lists.proofs.Walk.{below_or}
 use Rattle.lists.proofs.Bools.{cond_yes, cond_no}
@@ -69,27 +69,9 @@ wrap_left a b = ap signed32 (mod_add (wrap32 a) b ∙ ap (λ (n : ℕ). (n + mod
 pub wrap_right : (a b : ℤ) → wrap32 (a +ℤ wrap32 b) ≡ wrap32 (a +ℤ b)
 wrap_right a b = ap wrap32 (+ℤ_comm a (wrap32 b)) ∙ wrap_left b a ∙ ap wrap32 (+ℤ_comm b a)
 
-pub wrap_both : (a b : ℤ) → wrap32 (wrap32 a +ℤ wrap32 b) ≡ wrap32 (a +ℤ b)
-wrap_both a b = wrap_left a (wrap32 b) ∙ wrap_right a b
-
 -- wrapped sums are commutative and associative
 pub wrap_comm : (a b : ℤ) → wrap32 (a +ℤ b) ≡ wrap32 (b +ℤ a)
 wrap_comm a b = ap wrap32 (+ℤ_comm a b)
 
 pub wrap_assoc : (a b c : ℤ) → wrap32 (wrap32 (a +ℤ b) +ℤ c) ≡ wrap32 (a +ℤ wrap32 (b +ℤ c))
 wrap_assoc a b c = wrap_left (a +ℤ b) c ∙ ap wrap32 (+ℤ_assoc a b c) ∙ sym (wrap_right a (b +ℤ c))
-
--- ---- 32 bits hold what was wrapped to them
-signed_fits : (k : ℕ) → k < M → SFits w32 (signed32 k)
-signed_fits k h =
-    ⊎_elim
-    (λ l. subst (λ (z : ℤ). SFits w32 z) (sym (cond_yes (pos k) (negsuc (4294967295 - k)) (lt-ltb k 2147483648 l))) (record { sfits = l }))
-    (λ l. subst (λ (z : ℤ). SFits w32 z) (sym (cond_no (pos k) (negsuc (4294967295 - k)) (le-ltb k 2147483648 l)))
-    (record { sfits = high l }))
-    (below_or k 2147483648)
-  where
-    high : 2147483648 ≤ k → 4294967295 - k < 2147483648
-    high l = omega arith
-
-pub wrap_fits : (z : ℤ) → SFits w32 (wrap32 z)
-wrap_fits z = signed_fits (mod_z z M) (mod-lt z)

@@ -8,3 +8,4 @@ pub mod Tests
 pub mod Within
 pub mod Wrap
 pub mod Held
+pub mod Reals

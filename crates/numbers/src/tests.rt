@@ -6,15 +6,13 @@ ghost use Rattle.numbers.specs.Tests.{is_rate, is_fraction};
 pub fn is_finite(x: f32) -> bool
     ensures { result ≡ finite x }
 {
-    let infinity: f32 = 1.0 / 0.0;
-    x < infinity && x > -infinity
+    x.is_finite()
 }
 
 pub fn is_rate(x: f64) -> bool
     ensures { result ≡ is_rate x }
 {
-    let infinity: f64 = 1.0 / 0.0;
-    x > 0.0 && x < infinity
+    x > 0.0 && x.is_finite()
 }
 
 pub fn is_fraction(x: f64) -> bool

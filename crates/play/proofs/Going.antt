@@ -20,8 +20,7 @@ use Rattle.voice.specs.Malformed.{WellFormed}
 use Rattle.voice.specs.declared.record.Voice.{Voice}
 use Rattle.samples.specs.declared.Sample.{Sample}
 use Rattle.queue.specs.Search.{searched}
-use Rattle.queue.specs.declared.Found.{Found}
-use Rattle.queue.specs.declared.Found.TheVariants.{At, Nothing}
+use Rattle.std.proofs.Common.{Option, None, Some}
 use Rattle.dequeue.specs.Dequeue.{dequeued, dequeued_lane, dequeued_by, lane_by}
 use Rattle.dequeue.proofs.Keeps.{dequeued_formed, dequeued_places, dequeued_lane_long}
 use Rattle.track.specs.Track.{track_of, cursor_of}
@@ -51,9 +50,9 @@ module _ (window : List ℕ) (base : ℕ) where
   unfolding dequeued dequeued_lane
   none_lane v lane = by (searched v.queue v.queued)
     where
-      by : (f : Found) → (dequeued_by window base f v).found ≡ false → lane_by window base f v lane ≡ lane
-      by Nothing e = refl
-      by (At place) e = absurd (clash e)
+      by : (f : Option ℕ) → (dequeued_by window base f v).found ≡ false → lane_by window base f v lane ≡ lane
+      by None e = refl
+      by (Some place) e = absurd (clash e)
 
   -- ---- the loop
 

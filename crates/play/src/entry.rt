@@ -1,82 +1,58 @@
 // An entry played into a frame.
-ghost use Rattle.std.specs.Prelude.{◌≡◌, ◌-◌, ◌≤◌, ◌<◌, length};
-ghost use Rattle.numbers.specs.Sizes.{FRAME_SAMPLES, FRAME};
+ghost use Rattle.std.specs.Prelude.{◌≡◌, ◌-◌, ◌<◌};
+ghost use Rattle.numbers.specs.Sizes.{FRAME_SAMPLES};
 ghost use Rattle.track.specs.Laid.{laid, Turned};
 
 use numbers::sizes::{FRAME, FRAME_SAMPLES};
-use steps::step::{Cursor, step};
+use steps::step::step;
 use steps::stretch::Reached;
 use stretches::entry::play_on;
-use track::{Track, put, sound};
+use track::player::Player;
+use track::put;
 
 // Plays a sample at a time: at least one, and on until the frame is full or nothing remains.
-fn play_plain(
-    window: &[u8],
-    base: u32,
-    lane: &[i16],
-    t: Track,
-    c: Cursor,
-    frame: &mut [i16; FRAME],
-    output: usize,
-) -> Reached
-    requires output_lt_frame_samples { output < FRAME_SAMPLES }
-    requires frame_len { length frame.old ≡ FRAME }
-    requires remaining_le_length { c.remaining ≤ t.length }
-    requires decoded_in_bounds { t.decoded ≤ length lane.now }
-    ensures turned { Turned t c (FRAME_SAMPLES - output) result }
-    ensures frame_after { frame.new ≡
-        laid window.now base lane.now t c output result.count frame.old }
+fn play_plain(player: Player<'_>, frame: &mut [i16; FRAME], output: usize) -> Reached
+    requires { output < FRAME_SAMPLES }
+    ensures turned { Turned player.entry.track player.entry.cursor (FRAME_SAMPLES - output) result }
+    ensures frame_after { let p = player.entry in
+        frame.new ≡
+        laid p.window.bytes.now p.window.base p.lane.now p.track p.cursor output result.count frame.old }
 {
-    let mut at = c;
-    let mut n = 0;
-    loop {
-        let s = sound(window, base, lane, t, at);
-        put(frame, output + n, s);
-        at = step(at, t.rate);
-        n += 1;
-        if output + n >= FRAME_SAMPLES {
+    let mut cursor = player.cursor;
+    for n in 0..FRAME_SAMPLES - output {
+        put(frame, output + n, player.sound(cursor));
+        cursor = step(cursor, player.track.rate);
+        if cursor.remaining == 0 {
             return Reached {
-                cursor: at,
-                count: n,
+                cursor,
+                count: n + 1,
             };
         }
-        if at.remaining == 0 {
-            return Reached {
-                cursor: at,
-                count: n,
-            };
-        }
+    }
+    Reached {
+        cursor,
+        count: FRAME_SAMPLES - output,
     }
 }
 
 // Plays on into the frame from `output`, the quick way as far as that goes.
-pub fn play_entry(
-    window: &[u8],
-    base: u32,
-    lane: &[i16],
-    t: Track,
-    c: Cursor,
-    frame: &mut [i16; FRAME],
-    output: usize,
-) -> Reached
-    requires output_lt_frame_samples { output < FRAME_SAMPLES }
-    requires frame_len { length frame.old ≡ FRAME }
-    requires remaining_le_length { c.remaining ≤ t.length }
-    requires decoded_in_bounds { t.decoded ≤ length lane.now }
-    ensures turned { Turned t c (FRAME_SAMPLES - output) result }
-    ensures frame_after { frame.new ≡
-        laid window.now base lane.now t c output result.count frame.old }
+pub fn play_entry(player: Player<'_>, frame: &mut [i16; FRAME], output: usize) -> Reached
+    requires { output < FRAME_SAMPLES }
+    ensures turned { Turned player.entry.track player.entry.cursor (FRAME_SAMPLES - output) result }
+    ensures frame_after { let p = player.entry in
+        frame.new ≡
+        laid p.window.bytes.now p.window.base p.lane.now p.track p.cursor output result.count frame.old }
 {
-    let quick = play_on(window, base, lane, t, c, frame, output);
+    let quick = play_on(player, frame, output);
     let reached = output + quick.count;
     if reached >= FRAME_SAMPLES {
         return quick;
     }
-    let at = quick.cursor;
-    let plain = play_plain(window, base, lane, t, at, frame, reached);
-    let last = plain.cursor;
+    let mut rest = player;
+    rest.cursor = quick.cursor;
+    let plain = play_plain(rest, frame, reached);
     Reached {
-        cursor: last,
+        cursor: plain.cursor,
         count: quick.count + plain.count,
     }
 }

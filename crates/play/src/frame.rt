@@ -10,10 +10,10 @@ ghost use Rattle.play.specs.Inner.{filled};
 use crate::entry::play_entry;
 use dequeue::dequeue;
 use numbers::sizes::{FRAME, FRAME_SAMPLES};
-use steps::step::Cursor;
 use steps::stretch::Reached;
-use track::{Track, cursor_of, track_of};
+use track::player::Player;
 use voice::record::Voice;
+use window::Window;
 
 // What a frame comes to: the record, and how many samples were produced.
 #[derive(Clone, Copy)]
@@ -23,6 +23,7 @@ pub struct Played {
 }
 
 // The record as a silent frame begins.
+#[tactic(auto, unfolding(crate::specs::Play::opened))]
 fn open(v: Voice) -> Voice
     ensures { result ≡ opened v }
 {
@@ -32,6 +33,7 @@ fn open(v: Voice) -> Voice
     w
 }
 
+#[tactic(auto, unfolding(crate::specs::Play::switched_off))]
 fn switch_off(v: Voice) -> Voice
     ensures { result ≡ switched_off v }
 {
@@ -45,80 +47,63 @@ fn switch_off(v: Voice) -> Voice
 }
 
 // A frame spent on a dequeue, or the voice switched off.
-fn be_silent(v: Voice, window: &[u8], base: u32, lane: &mut [i16]) -> Voice
+#[tactic(auto, unfolding(crate::specs::Play::silent_frame))]
+fn be_silent(v: Voice, window: Window<'_>, lane: &mut [i16]) -> Voice
     requires well_formed { WellFormed (length lane.old) v }
     requires lane_len_bound { length lane.old ≤ most_samples }
-    ensures record { result ≡ (silent_frame window.now base v lane.old).voice }
-    ensures lane { lane.new ≡ (silent_frame window.now base v lane.old).lane }
+    ensures record { result ≡ (silent_frame window.entry.bytes.now window.entry.base v lane.old).voice }
+    ensures lane { lane.new ≡ (silent_frame window.entry.bytes.now window.entry.base v lane.old).lane }
 {
-    let d = dequeue(v, window, base, lane);
-    if d.found {
-        let w = d.voice;
-        return w;
+    match dequeue(v, window, lane) {
+        Some(w) => w,
+        None => switch_off(v),
     }
-    switch_off(v)
 }
 
 // Plays what is left of the entry at hand.
-fn play_left(
-    window: &[u8],
-    base: u32,
-    lane: &[i16],
-    t: Track,
-    c: Cursor,
-    frame: &mut [i16; FRAME],
-) -> Reached
-    requires frame_len { length frame.old ≡ FRAME }
-    requires remaining_le_length { c.remaining ≤ t.length }
-    requires decoded_in_bounds { t.decoded ≤ length lane.now }
-    ensures none { c.remaining ≡ 0 → result ≡ record { cursor = c; count = 0 } }
-    ensures some { 0 < c.remaining → Turned t c FRAME_SAMPLES result }
-    ensures frame { frame.new ≡
-        laid window.now base lane.now t c 0 result.count frame.old }
+#[tactic(auto, using(track::proofs::Onward::laid_none))]
+fn play_left(player: Player<'_>, frame: &mut [i16; FRAME]) -> Reached
+    ensures none { player.entry.cursor.remaining ≡ 0
+        → result ≡ record { cursor = player.entry.cursor; count = 0 } }
+    ensures some { 0 < player.entry.cursor.remaining
+        → Turned player.entry.track player.entry.cursor FRAME_SAMPLES result }
+    ensures frame { let p = player.entry in
+        frame.new ≡ laid p.window.bytes.now p.window.base p.lane.now p.track p.cursor 0 result.count frame.old }
 {
-    if c.remaining == 0 {
+    if player.cursor.remaining == 0 {
         return Reached {
-            cursor: c,
+            cursor: player.cursor,
             count: 0,
         };
     }
-    play_entry(window, base, lane, t, c, frame, 0)
+    play_entry(player, frame, 0)
 }
 
 // Plays what is left of the entry at hand, and then entries one after the other, until the frame is full or nothing is queued. Stores go
 // to the record in its place, since one that is handed on is copied.
-fn play_entries(
-    v: Voice,
-    window: &[u8],
-    base: u32,
-    lane: &mut [i16],
-    frame: &mut [i16; FRAME],
-) -> Played
+fn play_entries(v: Voice, window: Window<'_>, lane: &mut [i16], frame: &mut [i16; FRAME]) -> Played
     requires well_formed { WellFormed (length lane.old) v }
     requires lane_len_bound { length lane.old ≤ most_samples }
     requires frame_value { frame.old ≡ replicate FRAME (pos 0) }
-    ensures record { result.voice ≡ (filled window.now base v lane.old).voice }
-    ensures lane { lane.new ≡ (filled window.now base v lane.old).lane }
-    ensures frame { frame.new ≡ frame_of (filled window.now base v lane.old).samples }
-    ensures produced { result.produced ≡ length (filled window.now base v lane.old).samples }
+    ensures record { result.voice ≡ (filled window.entry.bytes.now window.entry.base v lane.old).voice }
+    ensures lane { lane.new ≡ (filled window.entry.bytes.now window.entry.base v lane.old).lane }
+    ensures frame { frame.new ≡ frame_of (filled window.entry.bytes.now window.entry.base v lane.old).samples }
+    ensures produced { result.produced ≡ length (filled window.entry.bytes.now window.entry.base v lane.old).samples }
 {
-    let first = play_left(window, base, lane, track_of(v), cursor_of(v), frame);
-    let left = first.cursor;
+    let first = play_left(Player::of(v, window, lane), frame);
     let mut w = v;
-    w.remaining = left.remaining;
-    w.fraction = left.fraction;
+    w.remaining = first.cursor.remaining;
+    w.fraction = first.cursor.fraction;
     let mut output = first.count;
+    // an entry gives many samples or few, so the count does not step by one
     while output < FRAME_SAMPLES {
-        let d = dequeue(w, window, base, lane);
-        if !d.found {
+        let Some(x) = dequeue(w, window, lane) else {
             break;
-        }
-        let x = d.voice;
-        let r = play_entry(window, base, lane, track_of(x), cursor_of(x), frame, output);
-        let reached = r.cursor;
+        };
+        let r = play_entry(Player::of(x, window, lane), frame, output);
         w = x;
-        w.remaining = reached.remaining;
-        w.fraction = reached.fraction;
+        w.remaining = r.cursor.remaining;
+        w.fraction = r.cursor.fraction;
         output += r.count;
     }
     Played {
@@ -128,52 +113,47 @@ fn play_entries(
 }
 
 // A frame that plays.
-fn play(v: Voice, window: &[u8], base: u32, lane: &mut [i16]) -> Played
+#[tactic(auto, unfolding(crate::specs::Play::playing_frame, crate::specs::Play::ended))]
+fn play(v: Voice, window: Window<'_>, lane: &mut [i16]) -> Played
     requires well_formed { WellFormed (length lane.old) v }
     requires lane_len_bound { length lane.old ≤ most_samples }
-    ensures record { result.voice ≡ (playing_frame window.now base v lane.old).voice }
-    ensures lane { lane.new ≡ (playing_frame window.now base v lane.old).lane }
-    ensures produced { result.produced ≡ (playing_frame window.now base v lane.old).produced }
+    ensures record { result.voice ≡ (playing_frame window.entry.bytes.now window.entry.base v lane.old).voice }
+    ensures lane { lane.new ≡ (playing_frame window.entry.bytes.now window.entry.base v lane.old).lane }
+    ensures produced { result.produced ≡ (playing_frame window.entry.bytes.now window.entry.base v lane.old).produced }
 {
     let mut w = v;
     w.position = v.length - v.remaining;
-    let mut frame = [0i16; FRAME];
-    let p = play_entries(w, window, base, lane, &mut frame);
-    let mut x = p.voice;
-    let ran_out = x.remaining == 0;
+    let mut frame = [0; FRAME];
+    let mut p = play_entries(w, window, lane, &mut frame);
     let full = p.produced == FRAME_SAMPLES;
-    x.ran_out_at_frame_end = ran_out & full;
-    x.frame = frame;
-    Played {
-        voice: x,
-        produced: p.produced,
-    }
+    p.voice.ran_out_at_frame_end = p.voice.remaining == 0 && full;
+    p.voice.frame = frame;
+    p
 }
 
 // Whether the voice spends the frame silent: nothing remains, and it does not follow on.
+#[tactic(auto, unfolding(crate::specs::Play::follows_on))]
 fn is_silent(v: Voice) -> bool
     ensures { result ≡ is_silent v }
 {
-    let spent = v.remaining == 0;
-    let queued = v.queued != 0;
-    let follows_on = v.ran_out_at_frame_end & queued;
-    spent & !follows_on
+    let follows_on = v.ran_out_at_frame_end && v.queued != 0;
+    v.remaining == 0 && !follows_on
 }
 
 // Plays one frame.
-pub fn play_frame(v: Voice, window: &[u8], base: u32, lane: &mut [i16]) -> Played
+#[tactic(auto, unfolding(crate::specs::Play::played, crate::specs::Play::silent_frame))]
+pub fn play_frame(v: Voice, window: Window<'_>, lane: &mut [i16]) -> Played
     requires well_formed { WellFormed (length lane.old) v }
     requires lane_len_bound { length lane.old ≤ most_samples }
-    ensures record { result.voice ≡ (played window.now base v lane.old).voice }
-    ensures lane { lane.new ≡ (played window.now base v lane.old).lane }
-    ensures produced { result.produced ≡ (played window.now base v lane.old).produced }
+    ensures record { result.voice ≡ (played window.entry.bytes.now window.entry.base v lane.old).voice }
+    ensures lane { lane.new ≡ (played window.entry.bytes.now window.entry.base v lane.old).lane }
+    ensures produced { result.produced ≡ (played window.entry.bytes.now window.entry.base v lane.old).produced }
 {
     if is_silent(v) {
-        let w = open(v);
         return Played {
-            voice: be_silent(w, window, base, lane),
+            voice: be_silent(open(v), window, lane),
             produced: 0,
         };
     }
-    play(v, window, base, lane)
+    play(v, window, lane)
 }

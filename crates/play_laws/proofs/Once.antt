@@ -14,34 +14,49 @@ use Rattle.steps.specs.Step.{moved}
 use Rattle.steps.specs.declared.step.Cursor.{Cursor}
 use Rattle.voice.specs.declared.record.Format.{Format}
 use Rattle.voice.specs.declared.record.Format.TheVariants.{Adpcm}
+use Rattle.voice.specs.declared.record.Entry.{Entry}
 use Rattle.voice.specs.declared.record.Voice.{Voice}
-use Rattle.samples.specs.Samples.{silence, sample_by, sample_at}
+use Rattle.samples.specs.Samples.{sample_by, sample_at}
 use Rattle.samples.specs.declared.Sample.{Sample}
 use Rattle.queue.specs.Search.{searched}
-use Rattle.queue.specs.declared.Found.{Found}
-use Rattle.queue.specs.declared.Found.TheVariants.{At, Nothing}
+use Rattle.std.proofs.Common.{Option, None, Some}
 use Rattle.dequeue.specs.Dequeue.{dequeued_by, dequeued}
 use Rattle.track.specs.declared.Track.{Track}
-use Rattle.track.specs.Track.{track_of, cursor_of, between_samples, heard_at, place_of, sound_of}
+use Rattle.track.specs.Track.{track_of, cursor_of, between_samples, heard_by, heard_at, place_of, sound_of}
 use Rattle.play.specs.Play.{Midst, Frame, at, started, sounded, begun_next, next, onward}
 use Rattle.play_laws.specs.Laws.{Entries, DecodedOnce}
 use Rattle.play_laws.proofs.Parts.{next_by, reached, made_of, played_plays}
 use Rattle.play_laws.proofs.Counting.{onward_idle}
 
+-- what a track plays is an ADPCM entry, where it plays one
+abbrev PlaysAdpcm : Track → Type 0
+PlaysAdpcm t = (e : Entry) → t.playing ≡ Some e → e.format ≡ Adpcm
+
+track_adpcm : (v : Voice) → v.playing.format ≡ Adpcm → PlaysAdpcm (track_of v)
+track_adpcm v a = by v.has_playing
+  where
+    by : (b : Bool) (e : Entry) → cond b (Some v.playing) None ≡ Some e → e.format ≡ Adpcm
+    by true e is = let same : v.playing ≡ e = cc is in ap (λ (x : Entry). x.format) (sym same) ∙ a
+    by false e is = cc is
+
 module _ (window other : List ℕ) (base there : ℕ) where
   -- ---- one sample of an ADPCM entry
 
-  module _ (lane : List ℤ) (t : Track) (adpcm : t.playing.format ≡ Adpcm) where
-    sample_once : (place : ℕ)
-        → sample_at window base lane t.decoded t.playing place ≡ sample_at other there lane t.decoded t.playing place
+  module _ (lane : List ℤ) (t : Track) (adpcm : PlaysAdpcm t) where
+    sample_once : (e : Entry) → e.format ≡ Adpcm → (place : ℕ)
+        → sample_at window base lane t.decoded e place ≡ sample_at other there lane t.decoded e place
     unfolding sample_at
-    sample_once place =
-        ap (λ (f : Format). sample_by window base lane t.decoded f t.playing place) adpcm
-        ∙ sym (ap (λ (f : Format). sample_by other there lane t.decoded f t.playing place) adpcm)
+    sample_once e is place =
+        ap (λ (f : Format). sample_by window base lane t.decoded f e place) is
+        ∙ sym (ap (λ (f : Format). sample_by other there lane t.decoded f e place) is)
 
     heard_once : (place : ℕ) → heard_at window base lane t place ≡ heard_at other there lane t place
     unfolding heard_at
-    heard_once place = ap (λ (s : Sample). cond t.has_playing s silence) (sample_once _)
+    heard_once place = by t.playing refl
+      where
+        by : (o : Option Entry) → t.playing ≡ o → heard_by window base lane t o place ≡ heard_by other there lane t o place
+        by None is = refl
+        by (Some e) is = sample_once e (adpcm e is) _
 
     sound_once : (c : Cursor) → sound_of window base lane t c ≡ sound_of other there lane t c
     unfolding sound_of
@@ -60,20 +75,20 @@ module _ (window other : List ℕ) (base there : ℕ) where
         samples = m.samples ++ (s ∷ []);
         dequeues = m.dequeues;
       })
-      (sound_once m.lane (track_of m.voice) a (cursor_of m.voice))
+      (sound_once m.lane (track_of m.voice) (track_adpcm m.voice a) (cursor_of m.voice))
 
   next_once : (m : Midst) → m.voice.playing.format ≡ Adpcm → (next window base m).dequeues ≡ m.dequeues
       → next window base m ≡ next other there m
   unfolding next dequeued sounded begun_next
   next_once m a = by (eqb m.voice.remaining 0) (searched m.voice.queue m.voice.queued)
     where
-      goes : List ℕ → ℕ → Bool → Found → Midst
+      goes : List ℕ → ℕ → Bool → Option ℕ → Midst
       goes w b z f = cond z (cond (dequeued_by w b f m.voice).found (sounded w b (begun_next w b m)) m) (sounded w b m)
 
-      by : (z : Bool) (f : Found) → (goes window base z f).dequeues ≡ m.dequeues → goes window base z f ≡ goes other there z f
+      by : (z : Bool) (f : Option ℕ) → (goes window base z f).dequeues ≡ m.dequeues → goes window base z f ≡ goes other there z f
       by false f e = sounded_once m a
-      by true Nothing e = refl
-      by true (At place) e = absurd (omega (arith, e))
+      by true None e = refl
+      by true (Some place) e = absurd (omega (arith, e))
 
   next_more : (m : Midst) → m.dequeues ≤ (next window base m).dequeues
   unfolding sounded begun_next

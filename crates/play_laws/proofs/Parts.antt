@@ -19,8 +19,7 @@ use Rattle.voice.specs.declared.record.Voice.{Voice}
 use Rattle.queue.specs.Played.{mark_played}
 use Rattle.queue.specs.Removal.{removed}
 use Rattle.queue.specs.Search.{searched}
-use Rattle.queue.specs.declared.Found.{Found}
-use Rattle.queue.specs.declared.Found.TheVariants.{At, Nothing}
+use Rattle.std.proofs.Common.{Option, None, Some}
 use Rattle.dequeue.specs.Dequeue.{entry_at, taken, start_of, begun_at, with_history, begun, decodable, adpcm_in}
 use Rattle.dequeue.specs.Dequeue.{decoded_voice, prepared_voice, ready}
 use Rattle.dequeue.specs.Dequeue.{dequeued_by, dequeued, dequeued_lane}
@@ -80,16 +79,16 @@ taken_either P place v f g = by (entry_at place v).looping refl
 module _ (window : List ℕ) (base : ℕ) where
   -- a dequeue that found an entry
   pub dequeued_by_lem : (P : Voice → Type 0) (v : Voice)
-      → ((place : ℕ) → At place ≡ searched v.queue v.queued
+      → ((place : ℕ) → Some place ≡ searched v.queue v.queued
       → P (prepared_voice window base (entry_at place v) (ready window base place v)))
       → (dequeued window base v).found ≡ true → P (dequeued window base v).voice
   unfolding dequeued
   dequeued_by_lem P v h = by (searched v.queue v.queued) refl
     where
-      by : (f : Found) → f ≡ searched v.queue v.queued → (dequeued_by window base f v).found ≡ true
+      by : (f : Option ℕ) → f ≡ searched v.queue v.queued → (dequeued_by window base f v).found ≡ true
           → P (dequeued_by window base f v).voice
-      by Nothing e t = absurd (clash (sym t))
-      by (At place) e t = h place e
+      by None e t = absurd (clash (sym t))
+      by (Some place) e t = h place e
 
   -- ---- samples
 
@@ -167,7 +166,7 @@ module _ (window : List ℕ) (base : ℕ) where
 
   -- a silent frame by what the search finds
   pub frame_dequeues : (P : Frame → Type 0) (v : Voice) (lane : List ℤ) (place : ℕ) → is_silent v ≡ true
-      → searched v.queue v.queued ≡ At place
+      → searched v.queue v.queued ≡ Some place
       → ((n : ℕ) (h : History)
       → P (record {
         voice = begins (entry_at place v) (taken place (opened v)) n h;
@@ -178,10 +177,10 @@ module _ (window : List ℕ) (base : ℕ) where
       → P (played window base v lane)
   unfolding dequeued opened
   frame_dequeues P v lane place s e h =
-      let found : (dequeued window base (opened v)).found ≡ true = ap (λ (f : Found). (dequeued_by window base f (opened v)).found) e in
+      let found : (dequeued window base (opened v)).found ≡ true = ap (λ (f : Option ℕ). (dequeued_by window base f (opened v)).found) e in
       let is : (dequeued window base (opened v)).voice
       ≡ prepared_voice window base (entry_at place v) (ready window base place (opened v)) =
-      ap (λ (f : Found). (dequeued_by window base f (opened v)).voice) e in
+      ap (λ (f : Option ℕ). (dequeued_by window base f (opened v)).voice) e in
       subst P (sym (played_silent v lane s))
       (silent_by P (opened v) lane
       (λ t. subst Q (sym is) (prepared_any window base Q (entry_at place v) (taken place (opened v)) h))
@@ -191,10 +190,10 @@ module _ (window : List ℕ) (base : ℕ) where
       Q u = P (record { voice = u; lane = dequeued_lane window base (opened v) lane; produced = 0; dequeues = 1 })
 
   pub frame_off : (P : Frame → Type 0) (v : Voice) (lane : List ℤ) → is_silent v ≡ true
-      → searched v.queue v.queued ≡ Nothing
+      → searched v.queue v.queued ≡ None
       → P (record { voice = switched_off (opened v); lane = lane; produced = 0; dequeues = 0 })
       → P (played window base v lane)
   unfolding dequeued opened
   frame_off P v lane s e h =
-      let none : (dequeued window base (opened v)).found ≡ false = ap (λ (f : Found). (dequeued_by window base f (opened v)).found) e in
+      let none : (dequeued window base (opened v)).found ≡ false = ap (λ (f : Option ℕ). (dequeued_by window base f (opened v)).found) e in
       subst P (sym (played_silent v lane s)) (silent_by P (opened v) lane (λ t. absurd (clash (sym t ∙ none))) (λ t. h))

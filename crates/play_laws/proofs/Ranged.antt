@@ -30,8 +30,7 @@ use Rattle.voice.proofs.Range.{unsigned_below, below_unsigned, test_in_range, in
 use Rattle.queue.specs.Played.{was_played, mark_played}
 use Rattle.queue.specs.Removal.{without, removed}
 use Rattle.queue.specs.Search.{searched}
-use Rattle.queue.specs.declared.Found.{Found}
-use Rattle.queue.specs.declared.Found.TheVariants.{At, Nothing}
+use Rattle.std.proofs.Common.{Option, None, Some}
 use Rattle.dequeue.specs.Dequeue.{entry_at, taken, start_of, begun_at, decodable, adpcm_in, decoded_lane, prepared_lane, ready}
 use Rattle.dequeue.specs.Dequeue.{lane_by, dequeued, dequeued_lane}
 use Rattle.track.specs.Track.{track_of, cursor_of}
@@ -148,9 +147,9 @@ module _ (window : List ℕ) (base : ℕ) where
   unfolding dequeued_lane prepared_lane decoded_lane
   lane_in v lane t = by (searched v.queue v.queued)
     where
-      by : (f : Found) → every (signed 16) (lane_by window base f v lane) ≡ true
-      by Nothing = t
-      by (At place) =
+      by : (f : Option ℕ) → every (signed 16) (lane_by window base f v lane) ≡ true
+      by None = t
+      by (Some place) =
           let e = entry_at place v in
           let u = ready window base place v in
           let new = decoded_samples sample_of u.coefficients u.history (adpcm_in window base e) e.length in

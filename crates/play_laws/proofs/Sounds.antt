@@ -34,7 +34,9 @@ use Rattle.voice.proofs.Range.{byte_below, half_signed, zero_sample}
 use Rattle.samples.specs.declared.Sample.{Sample}
 use Rattle.samples.specs.Samples.{silence, both, mono_of8, stereo_of8, mono_of16, stereo_of16, bytes_at, sample_by, sample_at}
 use Rattle.track.specs.declared.Track.{Track}
-use Rattle.track.specs.Track.{place_of, between_samples, heard_at, sound_of}
+use Rattle.track.specs.Track.{place_of, between_samples, heard_by, heard_at, sound_of}
+use Rattle.std.proofs.Common.{Option, None, Some}
+use Rattle.voice.specs.declared.record.Entry.{Entry}
 use Rattle.play.specs.Play.{sides, frame_of}
 use Rattle.play.proofs.Laying.{values_more}
 
@@ -116,8 +118,11 @@ module _ (window : List ℕ) (base : ℕ) (bytes : every is_byte window ≡ true
   module _ (lane : List ℤ) (samples : every (signed 16) lane ≡ true) (t : Track) where
     heard_16 : (place : ℕ) → In16 (heard_at window base lane t place)
     unfolding heard_at sample_at
-    heard_16 place =
-        cond_either In16 t.has_playing _ silence (sample_16 lane samples t.decoded t.playing t.playing.format _) silence_16
+    heard_16 place = by t.playing
+      where
+        by : (o : Option Entry) → In16 (heard_by window base lane t o place)
+        by None = silence_16
+        by (Some e) = sample_16 lane samples t.decoded e e.format _
 
     pub sound_16 : (c : Cursor) → In16 (sound_of window base lane t c)
     unfolding sound_of between_samples

@@ -1,5 +1,6 @@
 -- What document 01 says of a frame as a whole, and what a frame keeps. Assumes nothing: these are statements.
-use Rattle.std.specs.Prelude.{◌≡◌, Bool, true, false, List, ◌↔◌, ℕ, ◌+◌, ◌-◌, ◌*◌, ◌≤◌, ◌<◌, Float, ℤ, pos, length, drop, replicate}
+use Rattle.std.specs.Prelude.{◌≡◌, Bool, true, false, List, ◌↔◌, ℕ, ◌+◌, ◌-◌, ◌*◌, ◌≤◌, ◌<◌, Float, ℤ, pos}
+use Rattle.std.specs.Prelude.{length, drop, replicate, None, Some}
 use Rattle.lists.specs.Some.{some, every}
 use Rattle.numbers.specs.Sizes.{FRAME_SAMPLES, FRAME}
 use Rattle.adpcm.specs.declared.History.{History}
@@ -11,7 +12,6 @@ use Rattle.voice.specs.declared.record.Format.TheVariants.{Adpcm}
 use Rattle.voice.specs.declared.record.Kinds.{Kinds}
 use Rattle.voice.specs.declared.record.Voice.{Voice}
 use Rattle.queue.specs.Search.{searched}
-use Rattle.queue.specs.declared.Found.TheVariants.{At, Nothing}
 use Rattle.dequeue.specs.Dequeue.{entry_at, start_of}
 use Rattle.play.specs.Play.{Frame, follows_on, is_silent, played}
 
@@ -46,8 +46,8 @@ module _ (window : List ℕ) (base : ℕ) (v : Voice) (lane : List ℤ) where
     pub plays : is_silent v ≡ false → frame.dequeues ≡ 0 → frame.voice.position ≡ v.length - v.remaining
     pub dequeues : is_silent v ≡ false → 0 < frame.dequeues → frame.voice.position ≡ start_of frame.voice.playing
     pub silent_dequeue :
-        (place : ℕ) → is_silent v ≡ true → searched v.queue v.queued ≡ At place → frame.voice.position ≡ start_of (entry_at place v)
-    pub off : is_silent v ≡ true → searched v.queue v.queued ≡ Nothing → frame.voice.position ≡ 0
+        (place : ℕ) → is_silent v ≡ true → searched v.queue v.queued ≡ Some place → frame.voice.position ≡ start_of (entry_at place v)
+    pub off : is_silent v ≡ true → searched v.queue v.queued ≡ None → frame.voice.position ≡ 0
 
   -- "spends a silent frame dequeuing, or switches off": it produces nothing, and the voice is switched off exactly if nothing is queued
   pub record Spent : Type 0 where

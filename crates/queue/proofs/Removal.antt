@@ -4,10 +4,13 @@ use Prim.Native.Nat.{ℕ, suc, ◌+◌, ◌-◌, ◌≤◌, ◌<◌}
 use mathlib.Core.Path.{◌≡◌, sym, ◌∙◌, ap}
 use mathlib.Core.List.{List, [], ◌∷◌, ◌++◌}
 use native.Mathlib.Omega.{arith}
-use lib.ListN.{length, get_or, take, drop, length-append, length-take, length-drop, take-append-drop, get_or-append}
-use lib.Seq.{length-take-le, get_or-take, get_or-append-add, get_or-drop, get_or_at, take_at}
+use lib.ListN.{length, get_or, set, take, drop, length-append, length-take, length-drop, get_or-append}
+use lib.Seq.{length-take-le, get_or-take, get_or-append-add, get_or-drop}
 use lib.Seq.{take-append-add, take-append-le, take-take, take-add, drop_at}
-use Rattle.lists.proofs.Fill.{filled}
+use Rattle.std.specs.List.{copy_within}
+use Rattle.std.proofs.Common.{add-one, append_assoc}
+use Rattle.std.proofs.Math.Seq.{set-append_seam}
+use Rattle.std.proofs.lemmas.List.Edits.{paste_all}
 use Rattle.voice.specs.Blank.{blank_entry}
 use Rattle.voice.specs.declared.record.Entry.{Entry}
 use Rattle.queue.specs.Removal.{without, removed, KeepsOrder}
@@ -16,13 +19,6 @@ module _ (queue : List Entry) (place : ℕ) (inside : place < length queue) wher
   pub without_length : length (without place queue) ≡ length queue
   unfolding without
   without_length = simp (length-append, length-take, length-drop) (omega arith)
-
-  -- up to the place nothing has moved
-  pub without_start : queue ≡ filled (without place queue) queue place
-  unfolding without
-  without_start =
-      let len : length (take place queue) ≡ place = length-take-le place queue (omega arith) in
-      sym (ap (λ (l : List Entry). l ++ drop place queue) (take_at (take place queue) _ place len) ∙ take-append-drop place queue)
 
   -- before the place nothing changes
   pub without_before : (j : ℕ) (d : Entry) → j < place → get_or (without place queue) j d ≡ get_or queue j d
@@ -46,16 +42,31 @@ module _ (queue : List Entry) (place : ℕ) (inside : place < length queue) wher
       ∙ get_or-drop (suc place) queue (j - place) d
       ∙ ap (λ (n : ℕ). get_or queue n d) back
 
-  -- the last is blank
-  pub without_last : (j : ℕ) (d : Entry) → j + 1 ≡ length queue → get_or (without place queue) j d ≡ blank_entry
-  unfolding without
-  without_last j d e =
-      let len : length (take place queue) ≡ place = length-take-le place queue (omega arith) in
-      let there : j ≡ length (take place queue) + (j - place) = omega arith in
-      let last : length (drop (suc place) queue) ≡ j - place = simp length-drop (omega arith) in
-      ap (λ (n : ℕ). get_or (take place queue ++ (drop (suc place) queue ++ (blank_entry ∷ []))) n d) there
-      ∙ get_or-append-add (take place queue) (drop (suc place) queue ++ (blank_entry ∷ [])) (j - place) d
-      ∙ get_or_at (drop (suc place) queue) blank_entry [] d (j - place) last
+-- one place that is stored over
+last_stored : (before after : List Entry) (e : Entry) → length after ≡ 1 → set (before ++ after) (length before) e ≡ before ++ (e ∷ [])
+last_stored before [] e l = absurd (omega arith)
+last_stored before (x ∷ []) e l = set-append_seam before x [] e
+last_stored before (x ∷ (y ∷ more)) e l = absurd (omega arith)
+
+-- the entries behind a place put at it, and the last place blank
+pub without_kept :
+    (queue : List Entry) (place last : ℕ) → last + 1 ≡ length queue → place ≤ last
+    → set (copy_within queue (place + 1) (length queue) place) last blank_entry ≡ without place queue
+unfolding without
+without_kept queue place last all inside =
+    let before = take place queue in
+    let behind = drop (suc place) queue in
+    let left = drop (place + (length queue - suc place)) queue in
+    let n : length queue - suc place ≡ length behind = simp length-drop (omega arith) in
+    let one : length left ≡ 1 = simp length-drop (omega arith) in
+    let end : last ≡ length (before ++ behind) = simp (length-append, length-take, length-drop) (omega arith) in
+    let moved : copy_within queue (suc place) (length queue) place ≡ (before ++ behind) ++ left =
+    paste_all queue place behind (length queue - suc place) n ∙ sym (append_assoc before behind left) in
+    rw add-one
+    (ap (λ (l : List Entry). set l last blank_entry) moved
+    ∙ ap (λ (k : ℕ). set ((before ++ behind) ++ left) k blank_entry) end
+    ∙ last_stored (before ++ behind) left blank_entry one
+    ∙ append_assoc before behind (blank_entry ∷ []))
 
 pub keeps_order : KeepsOrder
 unfolding removed without

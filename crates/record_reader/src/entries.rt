@@ -1,57 +1,46 @@
 // The record's entries: the one that plays, and the queue.
-ghost use Rattle.std.specs.Prelude.{◌≡◌, length};
-
-use crate::parts::{code, half, on, word};
+use crate::{ENTRY, RECORD};
 use adpcm::History;
-use numbers::whole::to_signed16;
-use voice::record::{Entry, Format, Voice};
+use replaying::read;
+use voice::blank::{PLACES, blank_entry};
+use voice::record::{Entry, Format};
 
+// The format of a code. A code above the last is the last: every byte is taken, so this is a total match and no `TryFrom`.
 pub fn format_of(code: u8) -> Format {
-    if code == 0 {
-        return Format::Pcm8;
+    match code {
+        0 => Format::Pcm8,
+        1 => Format::Pcm16,
+        _ => Format::Adpcm,
     }
-    if code == 1 {
-        return Format::Pcm16;
-    }
-    Format::Adpcm
 }
 
-fn entry_of(bytes: &[u8]) -> Entry {
-    let adpcm = History {
-        yn1: to_signed16(half(bytes, 14)),
-        yn2: to_signed16(half(bytes, 16)),
-    };
-    let format = format_of(code(bytes, 18));
+// The history that the bytes begin with.
+pub fn history_of(bytes: &[u8]) -> History {
+    let [yn1, yn2] = replaying::read_array::<2, 2, i16>(bytes);
+    History { yn1, yn2 }
+}
+
+pub fn entry_of(bytes: &[u8; ENTRY]) -> Entry {
     Entry {
-        address: word(bytes, 0),
-        length: word(bytes, 4),
-        format,
-        stereo: on(bytes, 19),
-        looping: on(bytes, 20),
-        id: half(bytes, 12),
-        has_adpcm: on(bytes, 21),
-        adpcm,
-        from_queue: on(bytes, 22),
-        play_position: word(bytes, 8),
-        has_played: on(bytes, 23),
+        address: read(&bytes[0..]),
+        length: read(&bytes[4..]),
+        play_position: read(&bytes[8..]),
+        adpcm: history_of(&bytes[14..]),
+        id: read(&bytes[12..]),
+        format: format_of(bytes[18]),
+        stereo: read(&bytes[19..]),
+        looping: read(&bytes[20..]),
+        has_adpcm: read(&bytes[21..]),
+        from_queue: read(&bytes[22..]),
+        has_played: read(&bytes[23..]),
     }
 }
 
-pub fn with_entries(v: Voice, bytes: &[u8]) -> Voice
-    requires { length bytes.now ≡ 2456 }
-{
-    let mut w = v;
-    let playing = entry_of(&bytes[256..280]);
-    w.playing = playing;
-    let mut queue = w.queue;
-    let mut i: usize = 0;
-    while i < 64 {
-        let at = 280 + i * 24;
-        let end = at + 24;
-        let e = entry_of(&bytes[at..end]);
-        queue[i] = e;
-        i += 1;
+pub fn queue_of(bytes: &[u8; RECORD]) -> [Entry; PLACES] {
+    let (parts, _) = bytes[280..].as_chunks::<ENTRY>();
+    let mut queue = [blank_entry(); PLACES];
+    for (entry, part) in queue.iter_mut().zip(parts) {
+        *entry = entry_of(part);
     }
-    w.queue = queue;
-    w
+    queue
 }

@@ -18,24 +18,59 @@
 // has_adpcm, from_queue and has_played: marks.
 #![tactic(auto)]
 
-ghost use Rattle.std.specs.Prelude.{◌≡◌, length};
-
-use voice::record::Voice;
+use crate::entries::{entry_of, format_of, queue_of};
+use crate::filtering::filters_of;
+use replaying::{read, read_array};
+use voice::record::{Interpolation, Kinds, Voice};
 
 mod entries;
-mod fields;
 mod filtering;
-mod parts;
-mod singles;
+pub mod formed;
+
+// How many bytes a record has, and an entry.
+pub const RECORD: usize = 2456;
+
+pub const ENTRY: usize = 24;
+
+// Of these codes, too, one above the last is the last.
+fn kinds_of(bytes: &[u8; RECORD]) -> Kinds {
+    Kinds {
+        format: format_of(bytes[4]),
+        interpolation: match bytes[5] {
+            0 => Interpolation::Polyphase,
+            1 => Interpolation::Linear,
+            _ => Interpolation::None,
+        },
+    }
+}
 
 // The record that the bytes hold.
-pub fn record_of(bytes: &[u8]) -> Voice
-    requires { length bytes.now ≡ 2456 }
-{
-    let v = voice::blank::default_voice();
-    let v = fields::with_head(v, bytes);
-    let v = fields::with_state(v, bytes);
-    let v = fields::with_gains(v, bytes);
-    let v = fields::with_halves(v, bytes);
-    entries::with_entries(v, bytes)
+pub fn record_of(bytes: &[u8; RECORD]) -> Voice {
+    Voice {
+        enabled: read(&bytes[0..]),
+        sync_count: read(&bytes[2..]),
+        rate: read(&bytes[8..]),
+        kinds: kinds_of(bytes),
+        stereo: read(&bytes[1..]),
+        filters: filters_of(bytes),
+        gain: read_array(&bytes[96..]),
+        has_ramp: read_array(&bytes[92..]),
+        ramp: read_array(&bytes[144..]),
+        coefficients: read_array(&bytes[192..]),
+        history: entries::history_of(&bytes[224..]),
+        queue: queue_of(bytes),
+        queued: read::<4, u32>(&bytes[228..]) as usize,
+        has_playing: read(&bytes[232..]),
+        playing: entry_of(bytes[256..].first_chunk().unwrap()),
+        decoded: read(&bytes[236..]),
+        remaining: read(&bytes[240..]),
+        length: read(&bytes[244..]),
+        fraction: read(&bytes[16..]),
+        current_buffer_id: read(&bytes[252..]),
+        last_buffer_id: read(&bytes[254..]),
+        buffer_update: read(&bytes[233..]),
+        position: read(&bytes[248..]),
+        frame: read_array(&bytes[1816..]),
+        ran_out_at_frame_end: read(&bytes[234..]),
+    }
 }

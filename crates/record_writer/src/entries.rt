@@ -1,42 +1,28 @@
 // The record's entries: the one that plays, and the queue.
-ghost use Rattle.std.specs.Prelude.{◌+◌, ◌≤◌};
+use adpcm::History;
+use record_reader::{ENTRY, RECORD};
+use replaying::{put, put_each};
+use voice::blank::PLACES;
+use voice::record::Entry;
 
-use crate::parts;
-use numbers::whole::to_bits16;
-use voice::record::{Entry, Format};
-
-pub fn format_code(f: Format) -> u8 {
-    match f {
-        Format::Pcm8 => 0,
-        Format::Pcm16 => 1,
-        Format::Adpcm => 2,
-    }
+pub fn put_history(h: History, bytes: &mut [u8]) {
+    let samples = [h.yn1, h.yn2];
+    put_each(&samples, bytes);
 }
 
-pub fn put_entry(e: Entry, bytes: &mut [u8; 2456], at: usize)
-    requires { at + 24 ≤ 2456 }
-{
-    let adpcm = e.adpcm;
-    let format = e.format;
-    let kind = parts::pair(format_code(format), e.stereo as u8);
-    let middle = parts::pair(e.looping as u8, e.has_adpcm as u8);
-    let last = parts::pair(e.from_queue as u8, e.has_played as u8);
-    let words = [
-        e.address,
-        e.length,
-        e.play_position,
-        parts::word(e.id, to_bits16(adpcm.yn1)),
-        parts::word(to_bits16(adpcm.yn2), kind),
-        parts::word(middle, last),
-    ];
-    parts::put_words(&words, bytes, at);
+pub fn put_entry(e: Entry, bytes: &mut [u8; ENTRY]) {
+    let words = [e.address, e.length, e.play_position];
+    put_each(&words, bytes);
+    put(e.id, &mut bytes[12..]);
+    put_history(e.adpcm, &mut bytes[14..]);
+    bytes[18] = e.format as u8;
+    let marks = [e.stereo, e.looping, e.has_adpcm, e.from_queue, e.has_played];
+    put_each(&marks, &mut bytes[19..]);
 }
 
-pub fn put_queue(queue: [Entry; 64], bytes: &mut [u8; 2456]) {
-    let mut i: usize = 0;
-    while i < 64 {
-        let e = queue[i];
-        put_entry(e, bytes, 280 + i * 24);
-        i += 1;
+pub fn put_queue(queue: &[Entry; PLACES], bytes: &mut [u8; RECORD]) {
+    let (parts, _) = bytes[280..].as_chunks_mut::<ENTRY>();
+    for (part, entry) in parts.iter_mut().zip(queue) {
+        put_entry(*entry, part);
     }
 }

@@ -1,76 +1,88 @@
-// Test only: what the programs that replay the oracle's answers share. Floats go in and out by their bits, samples by their bytes. Nothing
-// is refused: each function asks for the room that it fills.
+// Test only: what the programs that replay the oracle's answers share: values that stand in bytes one after the other (`stored`), and a
+// sum. Nothing is refused: what one side has too few of, the other keeps.
 #![tactic(auto)]
 
-ghost use Rattle.std.specs.Prelude.{◌+◌, ◌*◌, ◌≤◌, ◌<◌, length};
+pub mod answering;
+pub mod stored;
 
-// The float of 32 bits: those above an infinity's, with the sign's bit dropped, are not a number.
-pub fn single(bits: u32) -> f32 {
-    if bits % 0x8000_0000 <= 0x7f80_0000 {
-        return f32::from_bits(bits);
+use stored::InBytes;
+
+// The value that the bytes begin with, or that of zeros where they are too few.
+pub fn read<const N: usize, T: InBytes<N>>(bytes: &[u8]) -> T {
+    match bytes.first_chunk::<N>() {
+        Some(first) => T::of(*first),
+        None => T::of([0; N]),
     }
-    0.0 / 0.0
 }
 
-// The same of 64 bits and a double.
-pub fn double(bits: u64) -> f64 {
-    if bits % 0x8000_0000_0000_0000 <= 0x7ff0_0000_0000_0000 {
-        return f64::from_bits(bits);
+// Puts a value where the bytes begin, or nothing where they are too few.
+pub fn put<const N: usize, T: InBytes<N>>(value: T, bytes: &mut [u8]) {
+    if let Some(first) = bytes.first_chunk_mut::<N>() {
+        *first = value.stored();
     }
-    0.0 / 0.0
 }
 
-// The bits of a float, always the same ones where it is not a number.
-pub fn bits32(x: f32) -> u32 {
-    if x == x {
-        return f32::to_bits(x);
+// Reads values one after the other, as many as both have.
+pub fn read_each<const N: usize, T: InBytes<N>>(bytes: &[u8], values: &mut [T]) {
+    let (parts, _) = bytes.as_chunks::<N>();
+    for (value, part) in values.iter_mut().zip(parts) {
+        *value = T::of(*part);
     }
-    0x7fc0_0000
 }
 
-// The same of a double.
-pub fn bits64(x: f64) -> u64 {
-    if x == x {
-        return f64::to_bits(x);
-    }
-    0x7ff8_0000_0000_0000
+// The first K values, those of zeros for what the bytes do not have.
+pub fn read_array<const N: usize, const K: usize, T: InBytes<N>>(bytes: &[u8]) -> [T; K] {
+    let mut values = [T::of([0; N]); K];
+    read_each::<N, T>(bytes, &mut values);
+    values
 }
 
-// Reads signed halves from a place of the bytes on.
-pub fn halves_at(bytes: &[u8], at: usize, out: &mut [i16])
-    requires { at + length out.old * 2 ≤ length bytes.now }
+// Puts values one after the other, as many as both have.
+pub fn put_each<const N: usize, T: InBytes<N>>(values: &[T], bytes: &mut [u8]) {
+    let (parts, _) = bytes.as_chunks_mut::<N>();
+    for (part, value) in parts.iter_mut().zip(values) {
+        *part = value.stored();
+    }
+}
+
+// A sum in which every value and its place count.
+pub fn sum<T: Copy, F: Fn(T) -> u32>(values: &[T], word: F) -> u32
+    requires { F.IsAlwaysCallable word }
 {
-    let mut i = 0;
-    while i < out.len() {
-        out[i] = little::signed_at(bytes, at + i * 2);
-        i += 1;
-    }
+    values.iter().fold(0u32, |total, value| {
+        total.wrapping_mul(31).wrapping_add(word(*value))
+    })
 }
 
-// Puts signed halves from a place of the bytes on.
-pub fn put_halves(values: &[i16], bytes: &mut [u8], at: usize)
-    requires { at + length values.now * 2 ≤ length bytes.old }
-{
-    let mut i = 0;
-    while i < values.len() {
-        little::write16(bytes, at + i * 2, numbers::whole::to_bits16(values[i]));
-        i += 1;
-    }
-}
+#[cfg(test)]
+mod tests {
+    use super::*;
 
-fn wide(byte: u8) -> u64
-    ensures { result < 256 }
-{
-    byte as u64
-}
-
-// A sum in which every byte and its place count.
-pub fn sum(bytes: &[u8]) -> u32 {
-    let mut total = 0u64;
-    let mut i = 0;
-    while i < bytes.len() {
-        total = (total * 31 + wide(bytes[i])) % 0x1_0000_0000;
-        i += 1;
+    #[test]
+    fn values_come_back(rt: HostRuntime) {
+        let mut bytes = [0u8; 14];
+        put_each(&[1.5f32, -2.0], &mut bytes);
+        put_each(&[-3i16, 4], &mut bytes[8..]);
+        put(true, &mut bytes[12..]);
+        let [first, second] = read_array::<4, 2, f32>(&bytes);
+        assert!(rt; first == 1.5 && second == -2.0);
+        let [third, fourth] = read_array::<2, 2, i16>(&bytes[8..]);
+        assert!(rt; third == -3 && fourth == 4);
+        let mark: bool = read(&bytes[12..]);
+        assert!(rt; mark && bytes[13] == 0);
     }
-    total as u32
+
+    #[test]
+    fn too_few_bytes(rt: HostRuntime) {
+        let [first, second] = read_array::<4, 2, u32>(&[1, 0, 0, 0, 9]);
+        assert!(rt; first == 1 && second == 0);
+        let mut bytes = [7u8; 3];
+        put(5u32, &mut bytes);
+        assert!(rt; bytes[0] == 7);
+    }
+
+    #[test]
+    fn places_count(rt: HostRuntime) {
+        assert!(rt; sum(&[1u8, 2], u32::from) == 33 && sum(&[2u8, 1], u32::from) == 63);
+    }
 }

@@ -20,168 +20,141 @@
 // Then follow the records, region 0, region 1, the lanes and the mixes as the call left them, as long as they were. A job that has not the
 // form is answered by two bytes, 255 and the reason, and ends the program: 1 the input ends within it, 2 there is no such kind, 3 no times,
 // 4 to 9 too many records, bytes of region 0, of region 1 or of the window, samples, or values.
-ghost use Rattle.std.specs.Prelude.{◌+◌, ◌≤◌};
+ghost use Rattle.std.specs.Prelude.{◌<◌, ◌≤◌, ◌^◌};
 
-use crate::bytes::{bad, fill, fill_first, within, write_first};
-use crate::{mixer_calls, sound, voice_calls};
-use little::read32;
-use std::io;
+use crate::fault::{Fault, Reason};
+use crate::parts::Fields;
+use crate::{mixer_calls, voice_calls};
+use layout::Layout;
+use mixer_state::Mixer;
+use record_reader::RECORD;
+use replaying::answering::{Stop, read_all, read_bytes};
+use replaying::read;
+use stems::Fixed;
 
-pub const HEAD: usize = 84;
+const HEAD: usize = 84;
 
 pub const ANSWER: usize = 708;
 
-// The most that a job has.
-pub const RECORDS: usize = 61400;
+// The most bytes that a job has of each field.
+const RECORDS: usize = 61400;
 
-pub const REGION: usize = 65537;
+const REGION: usize = 65537;
 
-pub const WINDOW: usize = 65536;
+const WINDOW: usize = 65536;
 
-pub const LANES: usize = 49153;
+const LANES: usize = 98306;
 
-pub const MIXES: usize = 1921;
+const MIXES: usize = 7684;
 
-// Bytes of the longest field that does not stand in bytes, the lanes.
-pub const ROOM: usize = 98306;
-
-pub const RECORD: usize = 2456;
-
-// The kinds but for 0.
-const MIXER: u32 = 1;
-
-pub const ALONE: u32 = 2;
-
-const ENDS_EARLY: u8 = 1;
-
-const NO_KIND: u8 = 2;
-
-const NO_TIMES: u8 = 3;
-
-// The first of six reasons, in the order of the lengths.
-const TOO_LONG: u8 = 4;
-
-pub fn word(head: &[u8; HEAD], at: usize) -> u32
-    requires { at + 4 ≤ 84 }
-{
-    read32(head, at)
+// What is called.
+#[derive(Clone, Copy)]
+enum Call {
+    Whole,
+    // the mixer, with the number of the region to be read
+    Mixer(u32),
+    // one voice alone, with its number
+    Alone(usize),
 }
 
-pub fn size(head: &[u8; HEAD], at: usize) -> usize
-    requires { at + 4 ≤ 84 }
+// The word of the head at a place.
+fn word(head: &[u8; HEAD], at: usize) -> u32
+    requires { at ≤ 84 }
+{
+    read(&head[at..])
+}
+
+fn size(head: &[u8; HEAD], at: usize) -> usize
+    requires { at ≤ 84 }
+    ensures { result < 2 ^ 32 }
 {
     word(head, at) as usize
 }
 
-fn record_bytes(head: &[u8; HEAD]) -> usize {
-    within(size(head, 60), lending::MOST) * RECORD
+fn layout_of(head: &[u8; HEAD]) -> Layout {
+    mixer_forms::layout_of(head[8..].first_chunk().unwrap())
 }
 
-// Why a job with this head is bad, or 0.
-fn reason(head: &[u8; HEAD]) -> u8 {
-    let kind = word(head, 0);
-    if kind > ALONE {
-        return NO_KIND;
+fn state_of(head: &[u8; HEAD]) -> Mixer {
+    mixer_forms::state_of(head[44..].first_chunk().unwrap())
+}
+
+fn call_of(head: &[u8; HEAD]) -> Result<Call, Reason> {
+    match word(head, 0) {
+        0 => Ok(Call::Whole),
+        1 => Ok(Call::Mixer(word(head, 40))),
+        2 => Ok(Call::Alone(size(head, 40))),
+        _ => Err(Reason::NoKind),
     }
-    if word(head, 4) == 0 {
-        return NO_TIMES;
+}
+
+// How many times the call is made.
+fn times_of(head: &[u8; HEAD]) -> Result<u32, Reason> {
+    match word(head, 4) {
+        0 => Err(Reason::NoTimes),
+        times => Ok(times),
     }
-    let most = [25, REGION, REGION, WINDOW, LANES, MIXES];
-    let mut i: usize = 0;
-    while i < 6 {
-        if size(head, 60 + i * 4) > most[i] {
-            return TOO_LONG + i as u8;
+}
+
+// Makes the call so many times, and gives the start of the answer.
+fn answer_of(call: Call, times: u32, head: &[u8; HEAD], fields: &mut Fields<'_>) -> [u8; ANSWER] {
+    let layout = layout_of(head);
+    let base = word(head, 36);
+    let fixed = Fixed { layout, base };
+    match call {
+        Call::Whole => voice_calls::call(None, times, fixed, fields),
+        Call::Alone(voice) => voice_calls::call(Some(voice), times, fixed, fields),
+        Call::Mixer(read) => mixer_calls::call(times, state_of(head), layout, read, fields),
+    }
+}
+
+// Reads and answers the job that this head begins.
+fn job(rt: &HostRuntime, head: &[u8; HEAD]) -> Result<(), Fault> {
+    let call = call_of(head)?;
+    let times = times_of(head)?;
+    let mut records = [0u8; RECORDS];
+    let mut first = [0u8; REGION];
+    let mut second = [0u8; REGION];
+    let mut window = [0u8; WINDOW];
+    let mut lanes = [0u8; LANES];
+    let mut mixes = [0u8; MIXES];
+    let records = records
+        .get_mut(..size(head, 60) * RECORD)
+        .ok_or(Reason::Records)?;
+    let first = first.get_mut(..size(head, 64)).ok_or(Reason::First)?;
+    let second = second.get_mut(..size(head, 68)).ok_or(Reason::Second)?;
+    let window = window.get_mut(..size(head, 72)).ok_or(Reason::Window)?;
+    let lanes = lanes.get_mut(..size(head, 76) * 2).ok_or(Reason::Lanes)?;
+    let mixes = mixes.get_mut(..size(head, 80) * 4).ok_or(Reason::Mixes)?;
+    let mut fields = Fields {
+        records,
+        first,
+        second,
+        window,
+        lanes,
+        mixes,
+    };
+    fields.read(rt)?;
+    rt.write_all(&answer_of(call, times, head, &mut fields))?;
+    Ok(fields.write(rt)?)
+}
+
+// Answers the job that begins with this byte.
+fn from_first(rt: &HostRuntime, first: u8) -> Result<(), Fault> {
+    let mut head = [first; HEAD];
+    read_all(rt, &mut head[1..])?;
+    job(rt, &head)
+}
+
+// Answers one job. Where the input ends before it there is none.
+pub fn answer(rt: &HostRuntime) -> Result<(), Stop> {
+    let [first] = read_bytes::<1>(rt)?;
+    match from_first(rt, first) {
+        Ok(()) => Ok(()),
+        Err(Fault::Failed(error)) => Err(Stop::Failed(error)),
+        Err(Fault::Bad(reason)) => {
+            rt.write_all(&[255, reason as u8])?;
+            Err(Stop::Over)
         }
-        i += 1;
     }
-    0
-}
-
-// Reads all that follows the head, and says whether it is there: once the input ends nothing more is read.
-fn fields(
-    rt: &HostRuntime,
-    head: &[u8; HEAD],
-    records: &mut [u8; RECORDS],
-    first: &mut [u8; REGION],
-    second: &mut [u8; REGION],
-    window: &mut [u8; WINDOW],
-    lanes: &mut [i16; LANES],
-    mixes: &mut [i32; MIXES],
-    bytes: &mut [u8; ROOM],
-) -> io::Result<bool> {
-    let mut there = fill_first(rt, records, record_bytes(head))?;
-    there &= fill_first(rt, first, size(head, 64))?;
-    there &= fill_first(rt, second, size(head, 68))?;
-    there &= fill_first(rt, window, size(head, 72))?;
-    there &= sound::lanes_of(rt, bytes, size(head, 76), lanes)?;
-    there &= sound::mixes_of(rt, bytes, size(head, 80), mixes)?;
-    Ok(there)
-}
-
-// Writes what a call was lent but for the window.
-fn write(
-    rt: &HostRuntime,
-    head: &[u8; HEAD],
-    records: &[u8; RECORDS],
-    first: &[u8; REGION],
-    second: &[u8; REGION],
-    lanes: &[i16; LANES],
-    mixes: &[i32; MIXES],
-    bytes: &mut [u8; ROOM],
-) -> io::Result<()> {
-    write_first(rt, records, record_bytes(head))?;
-    write_first(rt, first, size(head, 64))?;
-    write_first(rt, second, size(head, 68))?;
-    sound::write_lanes(rt, lanes, size(head, 76), bytes)?;
-    sound::write_mixes(rt, mixes, size(head, 80), bytes)
-}
-
-// Makes the call, and gives the start of the answer.
-fn call(
-    head: &[u8; HEAD],
-    records: &mut [u8; RECORDS],
-    first: &mut [u8; REGION],
-    second: &mut [u8; REGION],
-    window: &[u8; WINDOW],
-    lanes: &mut [i16; LANES],
-    mixes: &mut [i32; MIXES],
-) -> [u8; ANSWER] {
-    if word(head, 0) == MIXER {
-        return mixer_calls::call(head, first, second, mixes);
-    }
-    voice_calls::call(head, records, first, second, window, lanes, mixes)
-}
-
-// Answers one job, and says whether to go on. What is lent is room for its fields, and for what is not bytes among them.
-pub fn answer(
-    rt: &HostRuntime,
-    records: &mut [u8; RECORDS],
-    first: &mut [u8; REGION],
-    second: &mut [u8; REGION],
-    window: &mut [u8; WINDOW],
-    lanes: &mut [i16; LANES],
-    mixes: &mut [i32; MIXES],
-    bytes: &mut [u8; ROOM],
-) -> io::Result<bool> {
-    let mut head = [0u8; HEAD];
-    let got = fill(rt, &mut head)?;
-    if got == 0 {
-        return Ok(false);
-    }
-    if got < HEAD {
-        return bad(rt, ENDS_EARLY);
-    }
-    let why = reason(&head);
-    if why != 0 {
-        return bad(rt, why);
-    }
-    if !fields(
-        rt, &head, records, first, second, window, lanes, mixes, bytes,
-    )? {
-        return bad(rt, ENDS_EARLY);
-    }
-    let start = call(&head, records, first, second, window, lanes, mixes);
-    rt.write_all(&start)?;
-    write(rt, &head, records, first, second, lanes, mixes, bytes)?;
-    Ok(true)
 }

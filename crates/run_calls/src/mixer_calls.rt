@@ -1,9 +1,15 @@
 // The mixer's call.
-use crate::bytes::within;
-use crate::jobs::{ANSWER, HEAD, size, word};
+use crate::jobs::ANSWER;
+use crate::parts::Fields;
 use layout::Layout;
 use mixer::tick::{Mixed, tick};
+use mixer_forms::{put_frame, put_state};
 use mixer_state::Mixer;
+use refusals::answered;
+use replaying::read_each;
+
+// One value more than the mixes have.
+const MOST_VALUES: usize = 1921;
 
 // So many times, once at least, each on what the one before left.
 fn repeat(
@@ -16,44 +22,32 @@ fn repeat(
     mixes: &[i32],
 ) -> Mixed {
     let mut mixed = tick(state, l, read, first, second, mixes);
-    let mut left = times;
-    while left > 1 {
-        let next = mixed.mixer;
-        mixed = tick(next, l, read, first, second, mixes);
-        left -= 1;
+    for _ in 1..times {
+        mixed = tick(mixed.mixer, l, read, first, second, mixes);
     }
     mixed
-}
-
-fn state_of(head: &[u8; HEAD]) -> Mixer {
-    let all: &[u8] = head;
-    mixer_forms::state_of(&all[44..60])
 }
 
 // The number, the state and the frame.
 fn start_of(mixed: Mixed) -> [u8; ANSWER] {
     let mut start = [0u8; ANSWER];
-    start[0] = mixed.number;
-    let state = mixed.mixer;
-    mixer_forms::put_state(state, &mut start, 52);
-    let frame = mixed.frame;
-    mixer_forms::put_frame(&frame, &mut start, 68);
+    start[0] = answered(mixed.outcome);
+    put_state(mixed.mixer, start[52..].first_chunk_mut().unwrap());
+    put_frame(&mixed.frame, start[68..].first_chunk_mut().unwrap());
     start
 }
 
-// On so many of the bytes and values as the head has.
-pub fn call(head: &[u8; HEAD], first: &mut [u8], second: &mut [u8], mixes: &[i32]) -> [u8; ANSWER] {
-    let one = within(size(head, 64), first.len());
-    let two = within(size(head, 68), second.len());
-    let many = within(size(head, 80), mixes.len());
-    let mixed = repeat(
-        word(head, 4),
-        state_of(head),
-        mixer_forms::layout_of(head, 8),
-        word(head, 40),
-        &mut first[0..one],
-        &mut second[0..two],
-        &mixes[0..many],
-    );
-    start_of(mixed)
+// The mixes are only read.
+pub fn call(
+    times: u32,
+    state: Mixer,
+    l: Layout,
+    read: u32,
+    fields: &mut Fields<'_>,
+) -> [u8; ANSWER] {
+    let mut values = [0i32; MOST_VALUES];
+    read_each(fields.mixes, &mut values);
+    let count = (fields.mixes.len() / 4).min(MOST_VALUES);
+    let mixes = &values[..count];
+    start_of(repeat(times, state, l, read, fields.first, fields.second, mixes))
 }

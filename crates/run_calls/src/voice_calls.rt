@@ -1,155 +1,102 @@
 // The calls for all voices and for one voice alone.
 ghost use Rattle.std.specs.Prelude.{◌≤◌};
 
-use crate::bytes::within;
-use crate::jobs::{ALONE, ANSWER, HEAD, RECORDS, size, word};
-use crate::records::{put_records, records_of};
-use calls::refused::Returned;
+use crate::jobs::ANSWER;
+use crate::parts::Fields;
+use calls::refused::Refused;
 use lending::{Framed, MOST};
+use record_reader::{RECORD, record_of};
+use record_writer::put_record;
+use refusals::Refusal;
+use replaying::{put_each, read_each};
 use stems::Fixed;
+use voice::blank::default_voice;
 use voice::record::Voice;
 
-// What is called, the call for one voice alone, which has this number, or else the call for all voices; and what either is handed.
-#[derive(Clone, Copy)]
-struct Called {
-    alone: bool,
-    voice: usize,
-    fixed: Fixed,
+// One sample more than the lanes of 24 voices have, with 2,048 for each.
+const MOST_SAMPLES: usize = 49153;
+
+// One value more than the mixes have.
+const MOST_VALUES: usize = 1921;
+
+// The records that the bytes hold; past them stand voices as they begin.
+fn records_of(bytes: &[u8]) -> [Voice; MOST] {
+    let (parts, _) = bytes.as_chunks::<RECORD>();
+    let mut records = [default_voice(); MOST];
+    for (record, part) in records.iter_mut().zip(parts) {
+        *record = record_of(part);
+    }
+    records
 }
 
-fn called_of(head: &[u8; HEAD]) -> Called {
-    let layout = mixer_forms::layout_of(head, 8);
-    let fixed = Fixed {
-        layout,
-        base: word(head, 36),
-    };
-    Called {
-        alone: word(head, 0) == ALONE,
-        voice: word(head, 40) as usize,
-        fixed,
+// Puts as many records as the bytes have room for.
+fn put_records(records: &[Voice; MOST], bytes: &mut [u8]) {
+    let (parts, _) = bytes.as_chunks_mut::<RECORD>();
+    for (part, record) in parts.iter_mut().zip(records) {
+        put_record(*record, part);
     }
 }
 
-// Once. Nothing is promised, so that no caller has to carry what the call promises.
+// Once, for one voice alone or else for all. Nothing is promised, so that no caller has to carry what the call promises.
 fn once(
-    called: Called,
-    given: [Voice; MOST],
+    alone: Option<usize>,
+    records: [Voice; MOST],
     count: usize,
-    first: &mut [u8],
-    second: &mut [u8],
-    window: &[u8],
+    fixed: Fixed,
+    fields: &mut Fields<'_>,
     lanes: &mut [i16],
     mixes: &mut [i32],
 ) -> Framed
     requires { count ≤ 25 }
 {
-    let fixed = called.fixed;
-    if called.alone {
-        return lending::stem(
-            given,
-            count,
-            called.voice,
-            fixed,
-            first,
-            second,
-            window,
-            lanes,
-            mixes,
-        );
+    let first = &mut *fields.first;
+    let second = &mut *fields.second;
+    let window = &mut *fields.window;
+    match alone {
+        Some(voice) => lending::stem(
+            records, count, voice, fixed, first, second, window, lanes, mixes,
+        ),
+        None => lending::frame(records, count, fixed, first, second, window, lanes, mixes),
     }
-    lending::frame(given, count, fixed, first, second, window, lanes, mixes)
-}
-
-// So many times, once at least, each on what the one before left.
-fn repeat(
-    times: u32,
-    called: Called,
-    given: [Voice; MOST],
-    count: usize,
-    first: &mut [u8],
-    second: &mut [u8],
-    window: &[u8],
-    lanes: &mut [i16],
-    mixes: &mut [i32],
-) -> Framed
-    requires { count ≤ 25 }
-{
-    let mut framed = once(called, given, count, first, second, window, lanes, mixes);
-    let mut left = times;
-    while left > 1 {
-        let vs = framed.vs;
-        framed = once(called, vs, count, first, second, window, lanes, mixes);
-        left -= 1;
-    }
-    framed
 }
 
 // The number, how many voices are refused, and these, each with its number.
-fn start_of(returned: Returned) -> [u8; ANSWER] {
+fn start_of(answer: Result<Refused, Refusal>) -> [u8; ANSWER] {
     let mut start = [0u8; ANSWER];
-    start[0] = returned.number;
-    let refused = returned.refused;
-    let voices = refused.voices;
-    let numbers = refused.numbers;
-    let mut i: usize = 0;
-    while i < 24 && i < refused.count {
-        start[4 + i * 2] = voices[i];
-        start[5 + i * 2] = numbers[i];
-        i += 1;
+    match answer {
+        Ok(refused) => {
+            start[1] = refused.len() as u8;
+            let (places, _) = start[4..52].as_chunks_mut::<2>();
+            for (place, one) in places.iter_mut().zip(refused.as_slice()) {
+                *place = [one.voice, one.refusal.number()];
+            }
+        }
+        Err(refusal) => start[0] = refusal.number(),
     }
-    start[1] = i as u8;
     start
 }
 
-// On records in bytes.
-fn serve(
-    times: u32,
-    called: Called,
-    records: &mut [u8; RECORDS],
-    count: usize,
-    first: &mut [u8],
-    second: &mut [u8],
-    window: &[u8],
-    lanes: &mut [i16],
-    mixes: &mut [i32],
-) -> [u8; ANSWER]
-    requires { count ≤ 25 }
-{
-    let given = records_of(records, count);
-    let framed = repeat(
-        times, called, given, count, first, second, window, lanes, mixes,
-    );
-    let vs = framed.vs;
-    put_records(vs, count, records);
-    let returned = framed.answer;
-    start_of(returned)
-}
-
-// On so many of the records, bytes, samples and values as the head has.
+// So many times, once at least, each on what the one before left.
 pub fn call(
-    head: &[u8; HEAD],
-    records: &mut [u8; RECORDS],
-    first: &mut [u8],
-    second: &mut [u8],
-    window: &[u8],
-    lanes: &mut [i16],
-    mixes: &mut [i32],
+    alone: Option<usize>,
+    times: u32,
+    fixed: Fixed,
+    fields: &mut Fields<'_>,
 ) -> [u8; ANSWER] {
-    let count = within(size(head, 60), MOST);
-    let one = within(size(head, 64), first.len());
-    let two = within(size(head, 68), second.len());
-    let three = within(size(head, 72), window.len());
-    let samples = within(size(head, 76), lanes.len());
-    let values = within(size(head, 80), mixes.len());
-    serve(
-        word(head, 4),
-        called_of(head),
-        records,
-        count,
-        &mut first[0..one],
-        &mut second[0..two],
-        &window[0..three],
-        &mut lanes[0..samples],
-        &mut mixes[0..values],
-    )
+    let count = (fields.records.len() / RECORD).min(MOST);
+    let mut samples = [0i16; MOST_SAMPLES];
+    read_each(fields.lanes, &mut samples);
+    let lanes = &mut samples[..(fields.lanes.len() / 2).min(MOST_SAMPLES)];
+    let mut values = [0i32; MOST_VALUES];
+    read_each(fields.mixes, &mut values);
+    let mixes = &mut values[..(fields.mixes.len() / 4).min(MOST_VALUES)];
+    let records = records_of(fields.records);
+    let mut framed = once(alone, records, count, fixed, fields, lanes, mixes);
+    for _ in 1..times {
+        framed = once(alone, framed.vs, count, fixed, fields, lanes, mixes);
+    }
+    put_each(lanes, fields.lanes);
+    put_each(mixes, fields.mixes);
+    put_records(&framed.vs, fields.records);
+    start_of(framed.answer)
 }

@@ -1,37 +1,26 @@
--- What the two contracts say is what the theorem of stems asks of its calls, since the list that a struct holds is read back out of it; and
--- an outcome that the theorem's calls allow is one that the contracts allow. Assumes nothing.
-use mathlib.Core.Path.{◌≡◌, refl, sym, ap, ap₂, ◌∙◌, subst}
+-- What the two contracts say is what the theorem of stems asks of its calls; and an outcome that the theorem's calls allow is one that the
+-- contracts allow. Assumes nothing.
+use mathlib.Core.Path.{◌≡◌, refl, sym, ap, ◌∙◌, subst}
 use mathlib.Core.Bool.{Bool}
-use mathlib.Core.List.{List, [], ◌∷◌, ◌++◌, map}
-use Prim.Native.Nat.{ℕ, zero, suc}
-use lib.ListN.{length, take}
+use mathlib.Core.List.{List, [], ◌∷◌}
+use Prim.Native.Nat.{ℕ, zero, suc, ◌<◌}
+use native.Mathlib.Decide.{dec_lt}
+use native.Mathlib.Omega.{arith}
+use lib.ListN.{length, get_or}
+use Rattle.std.specs.Prelude.{Err}
+use Rattle.refusals.specs.declared.Refusal.TheVariants.{Malformed}
 use Rattle.layout.specs.declared.Layout.{Layout}
 use Rattle.voice_frame.specs.VoiceFrame.{Answer, served, refused}
 use Rattle.stems.specs.Alone.{leaves_alone, OneServed}
-use Rattle.stems.specs.Call.{put, serve, Refusal, Outcome, whole_number, alone_number}
+use Rattle.stems.specs.Call.{put, serve, Outcome, whole_number, alone_number}
 use Rattle.stems.specs.Memory.{Memory, Lent}
-use Rattle.stems.specs.Stems.{Frame, before, lent}
+use Rattle.stems.specs.Stems.{Frame, still, recorded, before, lent}
 use Rattle.stems.specs.Whole.{memory_left, leaves, Listed, AllServed}
 use Rattle.stems.specs.declared.Fixed.{Fixed}
 use Rattle.stems.proofs.Exist.{runs_exist}
 use Rattle.stems.proofs.Stems.{whole_and_stems}
-use Rattle.calls.specs.Refused.{padded, listed, returned}
-use Rattle.runs.specs.Runs.{Done, Ticked, VoiceTicked, AsEnsured, paired, refusals_of, outcome_of, lent_at, CallsCompared, CallsRun}
-
--- ---- the list in a struct
-
-front : (f : Refusal → ℕ) (rs : List Refusal) (more : List ℕ) → take (length rs) (map f rs ++ more) ≡ map f rs
-front f [] more = refl
-front f (r ∷ rs) more = ap (λ l. f r ∷ l) (front f rs more)
-
-pairs : (rs : List Refusal) → paired (map (λ r. r.voice) rs) (map (λ r. r.number) rs) ≡ rs
-unfolding paired
-pairs [] = refl
-pairs (r ∷ rs) = ap (λ l. r ∷ l) (pairs rs)
-
-read_back : (rs : List Refusal) → refusals_of (listed rs) ≡ rs
-unfolding refusals_of listed padded
-read_back rs = ap₂ paired (front (λ r. r.voice) rs _) (front (λ r. r.number) rs _) ∙ pairs rs
+use Rattle.runs.proofs.Given.{Told, Shown, told_whole, told_alone, shown_refusals, no_refusals, done_by}
+use Rattle.runs.specs.Runs.{Done, Ticked, VoiceTicked, AsEnsured, RunOf, outcome_of, lent_at, CallsCompared, CallsRun}
 
 -- ---- a contract says what all that was lent is afterwards
 
@@ -89,12 +78,12 @@ unfolding outcome_of
 all_call fx x d t = record {
   code = t.number;
   left = t.left;
-  listed = subst (Listed fx x) (sym (ap refusals_of t.refused.is ∙ read_back t.refused.list)) t.refused.holds;
+  listed = t.refused;
 }
 
 one_call : (fx : Fixed) (v : ℕ) (x : Lent) (d : Done) → VoiceTicked fx v x d → OneServed fx v x (outcome_of d)
 unfolding outcome_of
-one_call fx v x d t = record { code = t.number; left = t.left; listed = ap refusals_of t.listed ∙ read_back _ }
+one_call fx v x d t = record { code = t.number; left = t.left; listed = t.listed }
 
 pub calls_compared : CallsCompared
 calls_compared fx start typed ok frames writes whole W stem S k h =
@@ -105,41 +94,74 @@ calls_compared fx start typed ok frames writes whole W stem S k h =
 
 -- ---- and there are such runs
 
-done_by : Outcome → Done
-done_by o = record { returned = returned o.code (listed o.refusals); after = o.left }
+module _ (start : Lent) (frames : List Frame) (outs : ℕ → Outcome) (Call : Lent → Done → Type 0)
+    (each : (k : ℕ) → k < length frames → (d : Done) × Call (lent start frames outs k) d × (outcome_of d ≡ outs k)) where
+  -- what call k gives back; past the last call anything
+  abbrev done_at : (k : ℕ) → Dec (k < length frames) → Done
+  done_at k (yes h) = (each k h).0
+  done_at k (no n) = record { returned = Err Malformed; after = start }
 
-all_done : (fx : Fixed) (x : Lent) (o : Outcome) → AllServed fx x o → Ticked fx x (done_by o)
-unfolding done_by
-all_done fx x o a = record {
-  number = a.code;
-  left = a.left;
-  refused = record { list = o.refusals; is = refl; holds = a.listed };
-}
+  abbrev done : ℕ → Done
+  done k = done_at k (dec_lt k (length frames))
 
-one_done : (fx : Fixed) (v : ℕ) (x : Lent) (o : Outcome) → OneServed fx v x o → VoiceTicked fx v x (done_by o)
-unfolding done_by
-one_done fx v x o a = record { number = a.code; left = a.left; listed = ap listed a.listed }
+  done_is : (k : ℕ) → k < length frames → outcome_of (done k) ≡ outs k
+  done_is k h = go (dec_lt k (length frames))
+    where
+      go : (d : Dec (k < length frames)) → outcome_of (done_at k d) ≡ outs k
+      go (yes l) = (each k l).2
+      go (no n) = absurd (n h)
 
-same_lent : (start : Lent) (frames : List Frame) (outs : ℕ → Outcome) (k : ℕ)
-    → lent_at start frames (λ j. done_by (outs j)) k ≡ lent start frames outs k
-unfolding lent before outcome_of done_by
-same_lent start frames outs zero = refl
-same_lent start frames outs (suc k) = refl
+  same_lent : (k : ℕ) → k < length frames → lent_at start frames done k ≡ lent start frames outs k
+  unfolding lent before
+  same_lent zero h = refl
+  same_lent (suc k) h =
+      let e = done_is k (omega arith) in
+      λ j. record { memory = recorded (get_or frames (suc k) still) (e j).left.memory; mixes = (e j).left.mixes }
+
+  there_is : (done : ℕ → Done) × RunOf Call start frames done
+  there_is = (done, λ k h. subst (λ x. Call x (done k)) (sym (same_lent k h)) (called_at k h (dec_lt k (length frames))))
+    where
+      called_at : (k : ℕ) → k < length frames → (d : Dec (k < length frames)) → Call (lent start frames outs k) (done_at k d)
+      called_at k h (yes l) = (each k l).1
+      called_at k h (no n) = absurd (n h)
+
+all_done : (fx : Fixed) (x : Lent) (o : Outcome) → AllServed fx x o → (d : Done) × Ticked fx x d × (outcome_of d ≡ o)
+unfolding outcome_of
+all_done fx x o a =
+    let l = a.listed in
+    let r = done_by o (subst Told (sym a.code) (told_whole fx x)) (subst Shown (sym l.is) (shown_refusals (whole_number fx x) fx x l.order))
+    (λ n. l.is ∙ no_refusals (whole_number fx x) fx x l.order (λ z. n (a.code ∙ z))) in (
+      r.0,
+      record {
+        number = ap (λ (p : Outcome). p.code) r.1 ∙ a.code;
+        left = ap (λ (p : Outcome). p.left) r.1 ∙ a.left;
+        refused = subst (Listed fx x) (sym (ap (λ (p : Outcome). p.refusals) r.1)) a.listed;
+      },
+      r.1,
+    )
+
+one_done : (fx : Fixed) (v : ℕ) (x : Lent) (o : Outcome) → OneServed fx v x o → (d : Done) × VoiceTicked fx v x d × (outcome_of d ≡ o)
+unfolding outcome_of
+one_done fx v x o a =
+    let order = v ∷ [] in
+    let r = done_by o (subst Told (sym a.code) (told_alone fx v x)) (subst Shown (sym a.listed) (shown_refusals (alone_number fx v x) fx x order))
+    (λ n. a.listed ∙ no_refusals (alone_number fx v x) fx x order (λ z. n (a.code ∙ z))) in (
+      r.0,
+      record {
+        number = ap (λ (p : Outcome). p.code) r.1 ∙ a.code;
+        left = ap (λ (p : Outcome). p.left) r.1 ∙ a.left;
+        listed = ap (λ (p : Outcome). p.refusals) r.1 ∙ a.listed;
+      },
+      r.1,
+    )
 
 pub calls_run : CallsRun
 calls_run = record {
   whole = λ fx start frames.
-      let run = runs_exist.whole fx start frames in (
-        λ k. done_by (run.0 k),
-        λ k h.
-            subst (λ x. Ticked fx x (done_by (run.0 k))) (sym (same_lent start frames run.0 k))
-            (all_done fx (lent start frames run.0 k) (run.0 k) (run.1.calls k h)),
-      );
+      let run = runs_exist.whole fx start frames in
+      there_is start frames run.0 (Ticked fx) (λ k h. all_done fx (lent start frames run.0 k) (run.0 k) (run.1.calls k h));
   stem = λ fx v start frames.
-      let run = runs_exist.stem fx v start frames in (
-        λ k. done_by (run.0 k),
-        λ k h.
-            subst (λ x. VoiceTicked fx v x (done_by (run.0 k))) (sym (same_lent start frames run.0 k))
-            (one_done fx v (lent start frames run.0 k) (run.0 k) (run.1.calls k h)),
-      );
+      let run = runs_exist.stem fx v start frames in
+      there_is start frames run.0 (VoiceTicked fx v)
+      (λ k h. one_done fx v (lent start frames run.0 k) (run.0 k) (run.1.calls k h));
 }

@@ -1,34 +1,37 @@
 -- Whole run and stems, of what `tick` and `tick_voice` give back and leave: `CallsCompared` is the claim of stems, `WholeAndStems`, with
 -- the two contracts in the place of its calls, and `CallsRun` says that there are such runs. Assumes nothing: these are definitions and
 -- statements; `as_ensured`, `calls_compared` and `calls_run` of proofs/Runs.antt prove them.
-use Rattle.std.specs.Prelude.{◌≡◌, ℕ, ◌<◌, List, [], ◌∷◌, length, get_or, take}
-use Rattle.stems.specs.Call.{Refusal, Outcome, whole_number, alone_number}
+use Rattle.std.specs.Prelude.{◌≡◌, ℕ, ◌<◌, List, Result, length, get_or}
+use Rattle.arrayvec.specs.ArrayVec.{ArrayVec}
+use Rattle.refusals.specs.declared.Refusal.{Refusal}
+use Rattle.refusals.specs.Numbers.{number_of}
+use Rattle.stems.specs.Call.{Outcome, whole_number, alone_number}
 use Rattle.stems.specs.Memory.{VOICES, Lent, Typed}
 use Rattle.stems.specs.Stems.{Frame, still, TypedFrame, lent, Compared}
 use Rattle.stems.specs.declared.Fixed.{Fixed}
-use Rattle.calls.specs.declared.refused.Refused.{Refused}
-use Rattle.calls.specs.declared.refused.Returned.{Returned}
+use Rattle.calls.specs.Refused.{given}
+use Rattle.calls.specs.declared.refused.RefusedVoice.{RefusedVoice}
 use Rattle.voices.specs.Tick.{left as leftByAll, RefusedBy, Ensured}
 use Rattle.alone.specs.TickVoice.{left as leftByOne, refused, Ensured as VoiceEnsured}
 
 -- what a call gives back, and all that was lent to it as it leaves it
 pub record Done : Type 0 where
-  pub returned : Returned
+  pub returned : Result (ArrayVec RefusedVoice) Refusal
   pub after : Lent
 
 -- ---- what the contracts say
 
 -- `voices::tick`, lent x
 pub record Ticked (fx : Fixed) (x : Lent) (d : Done) : Type 0 where
-  pub number : d.returned.number ≡ whole_number fx x
+  pub number : number_of d.returned ≡ whole_number fx x
   pub left : d.after ≡ leftByAll fx x
-  pub refused : RefusedBy fx x d.returned.refused
+  pub refused : RefusedBy fx x (given d.returned)
 
 -- `alone::tick_voice` of voice v, lent x
 pub record VoiceTicked (fx : Fixed) (v : ℕ) (x : Lent) (d : Done) : Type 0 where
-  pub number : d.returned.number ≡ alone_number fx v x
+  pub number : number_of d.returned ≡ alone_number fx v x
   pub left : d.after ≡ leftByOne fx v x
-  pub listed : d.returned.refused ≡ refused fx v x
+  pub listed : given d.returned ≡ refused fx v x
 
 -- and that this is what they ensure: nothing but the window is left out there, which they are lent to read
 pub record AsEnsured : Type 0 where
@@ -39,19 +42,9 @@ pub record AsEnsured : Type 0 where
 
 -- ---- runs of such calls
 
--- voices and numbers as they stand side by side
-unfoldable pub paired : List ℕ → List ℕ → List Refusal
-paired [] ns = []
-paired (v ∷ vs) [] = []
-paired (v ∷ vs) (n ∷ ns) = record { voice = v; number = n } ∷ paired vs ns
-
--- the refused voices that a struct lists: the first so many, each with its number
-unfoldable pub refusals_of : Refused → List Refusal
-refusals_of r = paired (take r.count r.voices) (take r.count r.numbers)
-
 -- what the theorem speaks of
 unfoldable pub outcome_of : Done → Outcome
-outcome_of d = record { code = d.returned.number; refusals = refusals_of d.returned.refused; left = d.after }
+outcome_of d = record { code = number_of d.returned; refusals = given d.returned; left = d.after }
 
 -- what call k is lent: the recording's writes, made in what the call before it left
 abbrev pub lent_at : Lent → List Frame → (ℕ → Done) → ℕ → Lent

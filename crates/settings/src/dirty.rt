@@ -1,7 +1,9 @@
-// Bits of a configuration's dirty word: which fields the title changed.
-ghost use Rattle.std.specs.Prelude.{◌≡◌, ◌<◌, length};
-ghost use Rattle.fields.specs.Fields.{configuration, total};
+// Bits of a configuration's dirty word: which fields the title changed. They are numbers and no enum: their names and values are the
+// source's, the mixes' bits follow one another, so that one is shifted from another, and the word's other bits do nothing.
+ghost use Rattle.std.specs.Prelude.{◌≡◌, ◌<◌};
 ghost use Rattle.settings.specs.Dirty.{flag};
+
+use fields::config::CONFIG_SIZE;
 
 pub const FORMAT: u32 = 0x1;
 
@@ -38,9 +40,8 @@ pub const RESET: u32 = 0x2000_0000;
 pub const EMBEDDED_BUFFER: u32 = 0x4000_0000;
 
 // Whether a bit of the dirty word is set.
-pub fn flag(bytes: &[u8], bit: u32) -> bool
-    requires bytes_len { length bytes.now ≡ total configuration }
-    requires bit_nonzero { 0 < bit }
+pub fn flag(bytes: &[u8; CONFIG_SIZE], bit: u32) -> bool
+    requires { 0 < bit }
     ensures { result ≡ flag bytes.now bit }
 {
     fields::flags::flagged(little::read32(bytes, fields::config::DIRTY), bit)

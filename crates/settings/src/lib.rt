@@ -1,7 +1,8 @@
 // Of module 4, the configuration of a voice: what each flag of its dirty word does to its record. A step takes the record by value and the
-// voice's 192 bytes, the coefficients' step the 32 bytes of those too, and gives the record back, changed only where its flag is set. The
-// lengths are required; lengthening also requires that no more is left of the entry being played than its length. The step of the filters
-// is `filter_settings`. `config` takes the steps in their order; the entries are those of `entries` and `queueing`.
+// voice's 192 bytes, the coefficients' step the 32 bytes of those too, and gives the record back, changed only where its flag is set. So it
+// is a function of the record, as its definition is, and `config` takes one after the other as `in_turn` does. Lengthening requires that no
+// more is left of the entry being played than its length: it is asked, and is no ghost field of the record, since a record that is lent may
+// be malformed. The step of the filters is `filter_settings`; the entries are those of `entries` and `queueing`.
 #![tactic(auto)]
 
 pub mod dirty;

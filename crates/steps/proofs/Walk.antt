@@ -108,19 +108,22 @@ module _ (rate : Float) (c : Cursor) (size : ℕ) (places : List ℕ) (fractions
       walked = below_more (λ (j : ℕ). Noted size places' fractions' (after rate j c) j) k old new;
     }
 
-pub begun : (rate : Float) (c : Cursor) (size : ℕ) (places : List ℕ) (fractions : List Float) (room at : ℕ) (fraction : Float)
-    → at + 1 < size → length places ≡ 160 → length fractions ≡ 160
-    → record { remaining = size - at; fraction = fraction } ≡ c → Loop rate c size places fractions room at fraction 0
+pub begun : (rate : Float) (c : Cursor) (size : ℕ) (places : List ℕ) (fractions : List Float) (room : ℕ)
+    → 1 < c.remaining → c.remaining ≤ size → length places ≡ 160 → length fractions ≡ 160
+    → Loop rate c size places fractions room (size - c.remaining) c.fraction 0
 unfolding after
-begun rate c size places fractions room at fraction far long long_f e = record {
+begun rate c size places fractions room two inside long long_f = record {
   most = omega arith;
-  far = far;
+  far = omega arith;
   long = long;
   long_f = long_f;
-  is = e;
-  inside = λ j h. subst (λ (i : ℕ). 1 < (after rate i c).remaining) (zero_of j h) (subst (λ (d : Cursor). 1 < d.remaining) e (omega arith));
+  is = λ i. record { remaining = back i; fraction = c.fraction };
+  inside = λ j h. subst (λ (i : ℕ). 1 < (after rate i c).remaining) (zero_of j h) two;
   walked = below_none (λ (j : ℕ). Noted size places fractions (after rate j c) j);
 }
   where
+    back : size - (size - c.remaining) ≡ c.remaining
+    back = omega arith
+
     zero_of : (j : ℕ) → j ≤ 0 → 0 ≡ j
     zero_of j h = omega arith

@@ -1,5 +1,5 @@
 // Steps at rate 1.0 from a fraction of 0.0: each takes one sample, and the fraction stays 0.0.
-ghost use Rattle.std.specs.Prelude.{◌≡◌, true, ◌≤◌, ◌<◌, ◌-◌, min};
+ghost use Rattle.std.specs.Prelude.{◌≡◌, true, ◌≤◌, ◌<◌};
 ghost use Rattle.std.specs.Float.Ieee.{eq};
 ghost use Rattle.numbers.specs.Literals.{+0, +1};
 ghost use Rattle.numbers.specs.Sizes.{FRAME_SAMPLES};
@@ -7,12 +7,6 @@ ghost use Rattle.steps.specs.Stretch.{Stretched};
 
 use crate::step::Cursor;
 use crate::stretch::Reached;
-
-fn fewer(a: usize, b: usize) -> usize
-    ensures { result ≡ min a b }
-{
-    if a < b { a } else { b }
-}
 
 // How far such steps come with so much room, until the entry has no two left.
 pub fn reach(c: Cursor, room: usize) -> Reached
@@ -22,7 +16,7 @@ pub fn reach(c: Cursor, room: usize) -> Reached
     ensures { Stretched +1 c room result }
 {
     let remaining = c.remaining as usize;
-    let count = fewer(room, remaining - 2);
+    let count = room.min(remaining - 2);
     if count == 0 {
         return Reached {
             cursor: c,
@@ -34,6 +28,6 @@ pub fn reach(c: Cursor, room: usize) -> Reached
             remaining: c.remaining - (count as u32),
             fraction: 0.0,
         },
-        count: count,
+        count,
     }
 }

@@ -1,6 +1,6 @@
 // A walk through an entry: where each produced sample lies in it, and how far it is from there to the next, for as many as there is room
 // and the entry has two left.
-ghost use Rattle.std.specs.Prelude.{◌≡◌, ◌+◌, ◌*◌, ◌≤◌, ◌<◌, length, cond, pos};
+ghost use Rattle.std.specs.Prelude.{◌≡◌, ◌+◌, ◌-◌, ◌*◌, ◌≤◌, ◌<◌, cond, pos};
 ghost use Rattle.std.specs.Float.Ieee.{lt};
 ghost use Rattle.numbers.specs.Casts.{cast_u32, double};
 ghost use Rattle.numbers.specs.Literals.{+0, +1};
@@ -35,47 +35,16 @@ fn whole_part(x: f64) -> usize
     counted(whole_u32(x))
 }
 
-// Where each sample lies and its fraction, until the entry has no two left.
-fn walk_any(
+// The course of a walk through an entry of `size` samples, at a rate: where it begins, and for how many samples there is room.
+#[derive(Clone, Copy)]
+struct Course {
     size: u32,
     rate: f64,
-    c: Cursor,
+    start: Cursor,
     room: usize,
-    places: &mut [u32; FRAME_SAMPLES],
-    fractions: &mut [f64; FRAME_SAMPLES],
-) -> Reached
-    requires room_le_frame_samples { room ≤ FRAME_SAMPLES }
-    requires lt_remaining { 1 < c.remaining }
-    requires remaining_le_size { c.remaining ≤ size }
-    requires places_len { length places.old ≡ FRAME_SAMPLES }
-    requires fractions_len { length fractions.old ≡ FRAME_SAMPLES }
-    ensures stretched { Stretched rate c room result }
-    ensures walked { Walked rate c size places.new fractions.new result.count }
-{
-    let end = size as usize;
-    let last = end - 1;
-    let mut at = end - (c.remaining as usize);
-    let mut fraction = c.fraction;
-    let mut k = 0;
-    while k < room {
-        let input = fraction + rate;
-        let next = at + whole_part(input);
-        if next >= last {
-            break;
-        }
-        places[k] = at as u32;
-        fractions[k] = fraction;
-        fraction = at_least_0(input - whole_u32(input));
-        at = next;
-        k += 1;
-    }
-    Reached {
-        cursor: Cursor {
-            remaining: (end - at) as u32,
-            fraction: fraction,
-        },
-        count: k,
-    }
+    ghost room_in_frame: { room ≤ FRAME_SAMPLES },
+    ghost two_left: { 1 < start.remaining },
+    ghost start_in_entry: { start.remaining ≤ size },
 }
 
 // 1 from a number on, else 0.
@@ -97,74 +66,91 @@ fn is_slow(rate: f64) -> bool
     rate > 0.0 && rate < 2147483648.0
 }
 
-fn is_steady(fraction: f64, rate: f64) -> bool
-    ensures { result ≡ steady fraction rate }
-{
-    if is_part(fraction) {
-        return is_slow(rate);
-    }
-    false
-}
-
-// The same from a fraction below 1 at a rate below 2^31: a step takes the whole part of the rate, or one more. Even at one more each
-// time the entry has two left, so its end needs no test. Were what is left not below 1, it stops.
-fn walk_steady(
-    size: u32,
-    rate: f64,
-    c: Cursor,
-    room: usize,
-    places: &mut [u32; FRAME_SAMPLES],
-    fractions: &mut [f64; FRAME_SAMPLES],
-) -> Reached
-    requires room_le_frame_samples { room ≤ FRAME_SAMPLES }
-    requires lt_remaining { 1 < c.remaining }
-    requires remaining_le_size { c.remaining ≤ size }
-    requires places_len { length places.old ≡ FRAME_SAMPLES }
-    requires fractions_len { length fractions.old ≡ FRAME_SAMPLES }
-    requires part { Part c.fraction }
-    requires slow { Slow rate }
-    requires rate_bound { room * (cast_u32 rate + 1) + 1 < c.remaining }
-    ensures stretched { Stretched rate c room result }
-    ensures walked { Walked rate c size places.new fractions.new result.count }
-{
-    let end = size as usize;
-    let mut at = end - (c.remaining as usize);
-    let mut fraction = c.fraction;
-    let mut k = 0;
-    let whole = whole_u32(rate);
-    let above = whole + 1.0;
-    while k < room {
-        let input = fraction + rate;
-        let w = whole + one_from(input, above);
-        let left = input - w;
-        if !(left < 1.0) {
-            break;
+// Places and fractions lie in two arrays, as the loops that read them take several at a time of each.
+impl Course {
+    // Where the walk is with so many samples left, after so many steps.
+    fn reached(self, at: usize, fraction: f64, count: usize) -> Reached
+        requires { at ≤ self.size }
+        ensures { result ≡ record { cursor = record { remaining = self.size - at; fraction = fraction }; count = count } }
+    {
+        let remaining = self.size - (at as u32);
+        Reached {
+            cursor: Cursor {
+                remaining,
+                fraction,
+            },
+            count,
         }
-        places[k] = at as u32;
-        fractions[k] = fraction;
-        fraction = left;
-        at += counted(w);
-        k += 1;
     }
-    Reached {
-        cursor: Cursor {
-            remaining: (end - at) as u32,
-            fraction: fraction,
-        },
-        count: k,
-    }
-}
 
-// Whether the quick way goes: not where the entry might end within the room.
-fn is_quick(c: Cursor, rate: f64, room: usize) -> bool
-    requires { room ≤ FRAME_SAMPLES }
-    ensures { result ≡ quick_way c rate room }
-{
-    if is_steady(c.fraction, rate) {
-        let most = whole_part(rate) + 1;
-        return room * most + 1 < c.remaining as usize;
+    // Where each sample lies and its fraction, until the entry has no two left.
+    fn any(self, places: &mut [u32; FRAME_SAMPLES], fractions: &mut [f64; FRAME_SAMPLES]) -> Reached
+        ensures stretched { Stretched self.rate self.start self.room result }
+        ensures walked { Walked self.rate self.start self.size places.new fractions.new result.count }
+    {
+        let last = (self.size as usize) - 1;
+        let mut at = (self.size - self.start.remaining) as usize;
+        let mut fraction = self.start.fraction;
+        for k in 0..self.room {
+            let input = fraction + self.rate;
+            let next = at + whole_part(input);
+            if next >= last {
+                return self.reached(at, fraction, k);
+            }
+            places[k] = at as u32;
+            fractions[k] = fraction;
+            fraction = at_least_0(input - whole_u32(input));
+            at = next;
+        }
+        self.reached(at, fraction, self.room)
     }
-    false
+
+    // The same from a fraction below 1 at a rate below 2^31: a step takes the whole part of the rate, or one more. Even at one more each
+    // time the entry has two left, so its end needs no test. Were what is left not below 1, it stops.
+    fn steady(
+        self,
+        places: &mut [u32; FRAME_SAMPLES],
+        fractions: &mut [f64; FRAME_SAMPLES],
+    ) -> Reached
+        requires part { Part self.start.fraction }
+        requires slow { Slow self.rate }
+        requires rate_bound { self.room * (cast_u32 self.rate + 1) + 1 < self.start.remaining }
+        ensures stretched { Stretched self.rate self.start self.room result }
+        ensures walked { Walked self.rate self.start self.size places.new fractions.new result.count }
+    {
+        let mut at = (self.size - self.start.remaining) as usize;
+        let mut fraction = self.start.fraction;
+        let whole = whole_u32(self.rate);
+        let above = whole + 1.0;
+        for k in 0..self.room {
+            let input = fraction + self.rate;
+            let w = whole + one_from(input, above);
+            let left = input - w;
+            if !(left < 1.0) {
+                return self.reached(at, fraction, k);
+            }
+            places[k] = at as u32;
+            fractions[k] = fraction;
+            fraction = left;
+            at += counted(w);
+        }
+        self.reached(at, fraction, self.room)
+    }
+
+    // Whether each step takes the whole part of the rate, or one more.
+    fn is_steady(self) -> bool
+        ensures { result ≡ steady self.start.fraction self.rate }
+    {
+        is_part(self.start.fraction) && is_slow(self.rate)
+    }
+
+    // Whether the quick way goes: not where the entry might end within the room.
+    fn is_quick(self) -> bool
+        ensures { result ≡ quick_way self.start self.rate self.room }
+    {
+        self.is_steady()
+            && self.room * (whole_part(self.rate) + 1) + 1 < self.start.remaining as usize
+    }
 }
 
 // The walk at any rate, the quick way where it goes.
@@ -179,13 +165,18 @@ pub fn walk(
     requires room_le_frame_samples { room ≤ FRAME_SAMPLES }
     requires lt_remaining { 1 < c.remaining }
     requires remaining_le_size { c.remaining ≤ size }
-    requires places_len { length places.old ≡ FRAME_SAMPLES }
-    requires fractions_len { length fractions.old ≡ FRAME_SAMPLES }
     ensures stretched { Stretched rate c room result }
     ensures walked { Walked rate c size places.new fractions.new result.count }
 {
-    if is_quick(c, rate, room) {
-        return walk_steady(size, rate, c, room, places, fractions);
+    let course = Course {
+        size,
+        rate,
+        start: c,
+        room,
+    };
+    if course.is_quick() {
+        course.steady(places, fractions)
+    } else {
+        course.any(places, fractions)
     }
-    walk_any(size, rate, c, room, places, fractions)
 }

@@ -1,3 +1,4 @@
+pub mod Held
 pub mod Noting
 pub mod Ready
 pub mod Storing

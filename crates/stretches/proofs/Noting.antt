@@ -24,8 +24,8 @@ use Rattle.steps.specs.Stretch.{after, Walked}
 use Rattle.steps.proofs.Whole.{after_remaining, after_zero}
 use Rattle.track.specs.declared.Track.{Track}
 use Rattle.stretches.specs.Source.{sample_by, sample_in, is_mono, sound_by}
-use Rattle.stretches.specs.Stored.{stored, stored_at, Within, blended, run_at, here_at, next_at, pair_at, blended_at, pair_blend}
-use Rattle.stretches.specs.Stored.{sides_blend, noted_at, sound_after, all_zero}
+use Rattle.stretches.specs.Stored.{stored, stored_at, blended, run_at, here_at, pair_at, blended_at, pair_blend}
+use Rattle.stretches.specs.Stored.{noted_at, sound_after, all_zero}
 use Rattle.stretches.proofs.Storing.{stored_same, found}
 
 -- ---- both sides alike
@@ -57,27 +57,17 @@ module _ (lane : List ℤ) (bytes : List ℕ) (e : Entry) (places : List ℕ) (f
         ∙ (λ j. blended (sym (mono lane bytes e (get_or places i 0) m) j) (sym (mono lane bytes e (get_or places i 0 + 1) m) j)
         (get_or fractions i nan)))
 
-    -- what lies between fetched samples
-    pub sides_between : (zeros here zeros' next : List ℤ) → length zeros ≡ 320 → here ≡ stored (here_at lane bytes e places) 0 n zeros
-        → length zeros' ≡ 320 → next ≡ stored (next_at lane bytes e places) 0 n zeros'
-        → stored (sides_blend here next fractions) output n frame ≡ stored (blended_at lane bytes e places fractions) output n frame
-    sides_between zeros here zeros' next long is long' is' =
-        stored_same (sides_blend here next fractions) output frame (blended_at lane bytes e places fractions) n
-        (λ i h. let at = ap (λ (l : List ℤ). stored_at l i) is ∙ found (here_at lane bytes e places) zeros n long few i h in
-        let at' = ap (λ (l : List ℤ). stored_at l i) is' ∙ found (next_at lane bytes e places) zeros' n long' few i h in
-        λ j. blended (at j) (at' j) (get_or fractions i nan))
-
 -- ---- by whether samples are taken as they are
 
-module _ (lane : List ℤ) (bytes : List ℕ) (t : Track) (places : List ℕ) (fractions : List Float) (i : ℕ) where
+module _ (lane : List ℤ) (bytes : List ℕ) (e : Entry) (t : Track) (places : List ℕ) (fractions : List Float) (i : ℕ) where
   pub noted_plain : (t.plain || eq (get_or fractions i nan) +0) ≡ true
-      → here_at lane bytes t.playing places i ≡ noted_at lane bytes t places fractions i
+      → here_at lane bytes e places i ≡ noted_at lane bytes e t places fractions i
   unfolding sound_by
   noted_plain h = sym (cond_yes _ _ h)
 
-  pub noted_blended : t.plain ≡ false → blended_at lane bytes t.playing places fractions i ≡ noted_at lane bytes t places fractions i
+  pub noted_blended : t.plain ≡ false → blended_at lane bytes e places fractions i ≡ noted_at lane bytes e t places fractions i
   unfolding sound_by blended
-  noted_blended h = sym (ap (λ (b : Bool). sound_by (sample_in lane bytes t.playing) b (get_or places i 0) (get_or fractions i nan)) h)
+  noted_blended h = sym (ap (λ (b : Bool). sound_by (sample_in lane bytes e) b (get_or places i 0) (get_or fractions i nan)) h)
 
 -- each of the first fractions is 0, or one is not
 zero_each : (fractions : List Float) (n : ℕ) → all_zero fractions n ≡ true → (i : ℕ) → i < n → eq (get_or fractions i nan) +0 ≡ true
@@ -117,18 +107,13 @@ plain_each false fractions n a i h = zero_each fractions n a i h
 
 -- ---- a walk
 
-pub walked_within : (rate : Float) (c : Cursor) (size : ℕ) (places : List ℕ) (fractions : List Float) (n long : ℕ) → 1 < size → long ≡ size
-    → ((j : ℕ) → j ≤ n → 1 < (after rate j c).remaining) → Walked rate c size places fractions n → Within places n long
-unfolding Within
-walked_within rate c size places fractions n long s e inside w i h = omega (arith, (w i h).place_is, inside i (omega arith))
-
 -- what its notes give is what the track gives
-pub noted_stored : (lane : List ℤ) (bytes : List ℕ) (t : Track) (c : Cursor) (places : List ℕ) (fractions : List Float) (output n : ℕ)
-    (frame : List ℤ) → Walked t.rate c t.length places fractions n
-    → stored (noted_at lane bytes t places fractions) output n frame ≡ stored (sound_after lane bytes t c) output n frame
-noted_stored lane bytes t c places fractions output n frame w =
-    stored_same (noted_at lane bytes t places fractions) output frame (sound_after lane bytes t c) n
-    (λ i h. let p = w i h in λ j. sound_by (sample_in lane bytes t.playing) t.plain (p.place_is j) (p.fraction_is j))
+pub noted_stored : (lane : List ℤ) (bytes : List ℕ) (e : Entry) (t : Track) (c : Cursor) (places : List ℕ) (fractions : List Float)
+    (output n : ℕ) (frame : List ℤ) → Walked t.rate c t.length places fractions n
+    → stored (noted_at lane bytes e t places fractions) output n frame ≡ stored (sound_after lane bytes e t c) output n frame
+noted_stored lane bytes e t c places fractions output n frame w =
+    stored_same (noted_at lane bytes e t places fractions) output frame (sound_after lane bytes e t c) n
+    (λ i h. let p = w i h in λ j. sound_by (sample_in lane bytes e) t.plain (p.place_is j) (p.fraction_is j))
 
 -- ---- at rate 1.0 from a fraction of 0.0
 
@@ -138,15 +123,15 @@ unfolding sound_by
 sound_zero heard true place fraction e = refl
 sound_zero heard false place fraction e = cond_yes _ _ e
 
-pub run_sound : (lane : List ℤ) (bytes : List ℕ) (t : Track) (c : Cursor) → t.rate ≡ +1 → eq c.fraction +0 ≡ true
+pub run_sound : (lane : List ℤ) (bytes : List ℕ) (e : Entry) (t : Track) (c : Cursor) → t.rate ≡ +1 → eq c.fraction +0 ≡ true
     → c.remaining ≤ t.length
     → (i : ℕ) → i ≤ c.remaining
-    → run_at lane bytes t.playing (t.length - c.remaining) i ≡ sound_after lane bytes t c i
-run_sound lane bytes t c r z l i h =
+    → run_at lane bytes e (t.length - c.remaining) i ≡ sound_after lane bytes e t c i
+run_sound lane bytes e t c r z l i h =
     let there = ap (λ (x : Float). after x i c) r in
     let zero : eq (after t.rate i c).fraction +0 ≡ true = ap (λ (d : Cursor). eq d.fraction +0) there ∙ after_zero i c z h in
     let left : (after t.rate i c).remaining ≡ c.remaining - i = ap (λ (d : Cursor). d.remaining) there ∙ after_remaining i c z h in
     let place : t.length - c.remaining + i ≡ t.length - (after t.rate i c).remaining = omega (arith, left) in
-    ap (sample_in lane bytes t.playing) place
-    ∙ sym (sound_zero (sample_in lane bytes t.playing) t.plain (t.length - (after t.rate i c).remaining)
+    ap (sample_in lane bytes e) place
+    ∙ sym (sound_zero (sample_in lane bytes e) t.plain (t.length - (after t.rate i c).remaining)
     (after t.rate i c).fraction zero)

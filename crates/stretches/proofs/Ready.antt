@@ -1,16 +1,17 @@
 -- Where an entry is ready, the sample at each place of it is the definition's: one look-up of all its bytes holds the bytes that the
 -- look-up of each sample gives. By the bytes of both in the window. Assumes nothing.
-use mathlib.Core.Path.{◌≡◌, refl, sym, ap, ◌∙◌}
-use mathlib.Core.Bool.{Bool, true, false, ◌&&◌, ◌||◌, cond}
+use mathlib.Core.Path.{◌≡◌, refl, sym, ap, ◌∙◌, subst}
+use Rattle.std.proofs.Common.{Option}
+use mathlib.Core.Bool.{Bool, true, false, ◌||◌, cond}
 use mathlib.Core.List.{List, []}
 use Prim.Native.Nat.{ℕ, ◌+◌, ◌-◌, ◌*◌, ◌%◌, ◌^◌, ◌≤◌, ◌<◌, min}
 use native.Mathlib.Omega.{arith}
-use lib.Dec.{ltb, eqb}
+use lib.Dec.{ltb}
 use lib.IntN.{ℤ, pos}
 use lib.ListN.{length, get_or}
 use lib.Ieee.{eq}
-use borrow.Author.Tests.{lt-ltb, ltb-true, leb-true, eqb-true}
-use Rattle.lists.proofs.Bools.{cond_yes, cond_no, and_both}
+use borrow.Author.Tests.{lt-ltb, ltb-true, leb-true}
+use Rattle.lists.proofs.Bools.{cond_yes, cond_no}
 use Rattle.numbers.specs.Literals.{+0}
 use Rattle.numbers.specs.Wrap.{signed16}
 use Rattle.window.specs.Window.{present_in, look_up, AllInside, byte_of}
@@ -23,10 +24,10 @@ use Rattle.dequeue.specs.Dequeue.{aligned}
 use Rattle.samples.specs.Samples as samples
 use Rattle.samples.specs.Samples.{stereo_sample, both, silence, high_byte, pcm8_at, pcm16_at, sample_at}
 use Rattle.steps.specs.declared.step.Cursor.{Cursor}
-use Rattle.track.specs.Track.{between_samples, heard_at, sound_of}
+use Rattle.track.specs.Track.{between_samples, heard_by, heard_at, sound_of}
 use Rattle.track.specs.declared.Track.{Track}
-use Rattle.stretches.specs.Source.{size8, size16, size_by, size_of, held_by, Holds, pcm8_in, pcm16_in, sample_by, sample_in}
-use Rattle.stretches.specs.Source.{entry_bytes, is_held, is_ready, sound_by, sound_in}
+use Rattle.stretches.specs.Source.{size8, size16, size_by, size_of, held_by, pcm8_in, pcm16_in, sample_by, sample_in}
+use Rattle.stretches.specs.Source.{entry_bytes, is_held, AtHand, sound_by, sound_in}
 
 -- ---- bytes
 
@@ -125,48 +126,36 @@ module _ (window : List ℕ) (base : ℕ) (lane : List ℤ) (decoded : ℕ) (e :
       omega (arith, ap length u.bytes_is, there_long window base (aligned e.address) (e.length * size16 e.stereo) u.present)
   held_by_lem Adpcm t d l = omega (arith, d refl)
 
-module _ (window : List ℕ) (base : ℕ) (lane : List ℤ) (t : Track) (fit : t.decoded ≤ length lane)
-    (ready : is_ready (entry_bytes window base t.playing) t ≡ true) where
-  abbrev e : Entry
-  e = t.playing
-
-  abbrev bytes : List ℕ
-  bytes = entry_bytes window base e
-
-  parts : (t.has_playing ≡ true) × (e.length ≡ t.length) × (is_held bytes t ≡ true)
-  unfolding is_ready
-  parts =
-      let a = and_both t.has_playing (eqb e.length t.length && is_held bytes t) ready in
-      let b = and_both (eqb e.length t.length) (is_held bytes t) a.1 in
-      (a.0, eqb-true e.length t.length b.0, b.1)
-
+module _ (window : List ℕ) (base : ℕ) (lane : List ℤ) (t : Track) (bytes : List ℕ) (e : Entry) (fit : t.decoded ≤ length lane)
+    (a : AtHand window base t bytes e) where
   there : is_adpcm e.format ≡ false → There window base (aligned e.address) (e.length * size_by e.format e.stereo) bytes
   unfolding is_held size_of
-  there f = some_there window base e (ltb-true 0 (length bytes) (sym (cond_no _ _ f) ∙ parts.2))
+  there f =
+      let some = ltb-true 0 (length bytes) (sym (cond_no _ _ f) ∙ a.held) in
+      subst (There window base (aligned e.address) (e.length * size_of e)) (sym a.bytes_are)
+      (some_there window base e (omega (arith, some, ap length a.bytes_are)))
 
   decoded_all : is_adpcm e.format ≡ true → e.length ≤ t.decoded
   unfolding is_held
-  decoded_all f = leb-true e.length t.decoded (sym (cond_yes _ _ f) ∙ parts.2)
+  decoded_all f = leb-true e.length t.decoded (sym (cond_yes _ _ f) ∙ a.held)
 
-  pub ready_long : e.length ≡ t.length
-  ready_long = parts.1
-
-  pub ready_holds : Holds lane bytes e
-  unfolding Holds size_of
+  -- all of its samples are held
+  pub ready_holds : e.length * size_of e ≤ held_by lane bytes e.format
+  unfolding size_of
   ready_holds = held_by_lem window base lane t.decoded e bytes e.format there decoded_all fit
 
   ready_heard : (p : ℕ) → p < e.length → heard_at window base lane t p ≡ sample_in lane bytes e p
   unfolding heard_at sample_at sample_in
   ready_heard p h =
       let inside : min p (e.length - 1) ≡ p = omega arith in
-      cond_yes _ _ parts.0
+      ap (λ (o : Option Entry). heard_by window base lane t o p) a.playing
       ∙ ap (sample_at window base lane t.decoded e) inside
       ∙ sample_by_lem window base lane t.decoded e bytes e.format there decoded_all p h
 
   -- the sample that is produced where two of the entry are left
-  pub ready_sound : (c : Cursor) → 1 < c.remaining → 1 < t.length → sound_in lane bytes t c ≡ sound_of window base lane t c
+  pub ready_sound : (c : Cursor) → 1 < c.remaining → 1 < t.length → sound_in lane bytes e t c ≡ sound_of window base lane t c
   unfolding sound_of sound_by
   ready_sound c h l =
-      let here = sym (ready_heard (t.length - c.remaining) (omega (arith, ready_long))) in
-      let next = sym (ready_heard (t.length - c.remaining + 1) (omega (arith, ready_long))) in
+      let here = sym (ready_heard (t.length - c.remaining) (omega (arith, a.whole))) in
+      let next = sym (ready_heard (t.length - c.remaining + 1) (omega (arith, a.whole))) in
       λ i. cond (t.plain || eq c.fraction +0) (here i) (between_samples (here i) (next i) c.fraction)

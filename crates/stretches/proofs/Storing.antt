@@ -34,10 +34,6 @@ module _ (samples : ℕ → Sample) (output : ℕ) (frame : List ℤ) where
   stored_length zero = refl
   stored_length (suc n) = put_length _ _ _ ∙ stored_length n
 
-  -- a frame that was so far stored
-  pub stored_long : (n : ℕ) (now : List ℤ) → now ≡ stored samples output n frame → length frame ≡ 320 → length now ≡ 320
-  stored_long n now e l = ap length e ∙ stored_length n ∙ l
-
   -- a turn of a loop that stores
   pub stored_turn : (n : ℕ) (before after : List ℤ) (s : Sample) (k : ℕ) → k ≡ output + n
       → before ≡ stored samples output n frame → s ≡ samples n → after ≡ put before k s → after ≡ stored samples output (n + 1) frame

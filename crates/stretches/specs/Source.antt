@@ -1,10 +1,10 @@
 -- Where the samples of an entry lie: PCM in one part of the window, ADPCM in the lane; and the sample that a voice produces from them. Only
 -- the contracts of quick functions cite these; `ready_sound` of proofs/Ready.antt proves that they say what track's definitions say.
 -- Assumes nothing: these are definitions.
-use Rattle.std.specs.Prelude.{Bool, ◌&&◌, ◌||◌, not, cond, List, [], ◌≡◌, ℕ, ◌+◌, ◌-◌, ◌*◌, ◌^◌, ◌≤◌, ◌<◌, eqb, ltb, leb, ℤ, pos, length, get_or, Float}
+use Rattle.std.specs.Prelude.{Bool, ◌||◌, not, cond, List, [], ◌≡◌, ℕ, ◌+◌, ◌-◌, ◌*◌, ◌^◌, ltb, leb, ℤ, pos}
+use Rattle.std.specs.Prelude.{length, get_or, Float, true, Some}
 use Rattle.std.specs.Float.Ieee.{eq}
 use Rattle.numbers.specs.Literals.{+0}
-use Rattle.numbers.specs.Sizes.{FRAME_SAMPLES, FRAME}
 use Rattle.numbers.specs.Wrap.{signed16}
 use Rattle.little.specs.Little.{at16}
 use Rattle.window.specs.Window.{look_up}
@@ -40,9 +40,9 @@ held_by lane bytes Pcm8 = length bytes
 held_by lane bytes Pcm16 = length bytes
 held_by lane bytes Adpcm = length lane
 
--- every sample of an entry is among them
-unfoldable pub Holds : List ℤ → List ℕ → Entry → Type 0
-Holds lane bytes e = e.length * size_of e ≤ held_by lane bytes e.format
+-- the sample at a place, of values one after the other: in stereo two for each place, the left one first
+abbrev pub valued_in : (ℕ → ℤ) → Bool → ℕ → Sample
+valued_in value stereo place = cond stereo (stereo_sample (value (place * 2)) (value (place * 2 + 1))) (both (value place))
 
 -- the sample at a place
 abbrev pub pcm8_in : List ℕ → Bool → ℕ → Sample
@@ -72,13 +72,16 @@ unfoldable pub entry_bytes : List ℕ → ℕ → Entry → List ℕ
 entry_bytes window base e =
     cond (ltb (aligned e.address + e.length * size_of e) (2 ^ 32)) (look_up window base (aligned e.address) (e.length * size_of e)) []
 
--- every sample of the entry at hand was decoded, or has its bytes in the window
-unfoldable pub is_held : List ℕ → Track → Bool
-is_held bytes t = cond (is_adpcm t.playing.format) (leb t.playing.length t.decoded) (ltb 0 (length bytes))
+-- every sample of an entry was decoded, of so many, or has its bytes in the window
+unfoldable pub is_held : List ℕ → ℕ → Entry → Bool
+is_held bytes decoded e = cond (is_adpcm e.format) (leb e.length decoded) (ltb 0 (length bytes))
 
--- an entry plays, the record's length is its own, and every sample of it is at hand
-unfoldable pub is_ready : List ℕ → Track → Bool
-is_ready bytes t = t.has_playing && (eqb t.playing.length t.length && is_held bytes t)
+-- an entry plays, the record's length is its own, and every sample of it is at hand, in these bytes or in the lane
+pub record AtHand (window : List ℕ) (base : ℕ) (t : Track) (bytes : List ℕ) (e : Entry) : Type 0 where
+  pub playing : t.playing ≡ Some e
+  pub whole : e.length ≡ t.length
+  pub bytes_are : bytes ≡ entry_bytes window base e
+  pub held : is_held bytes t.decoded e ≡ true
 
 -- the sample so far past a place, where samples are taken as they are or not
 unfoldable pub sound_by : (ℕ → Sample) → Bool → ℕ → Float → Sample
@@ -86,14 +89,5 @@ sound_by heard plain place fraction =
     cond (plain || eq fraction +0) (heard place) (between_samples (heard place) (heard (place + 1)) fraction)
 
 -- the sample that is produced where playing is
-abbrev pub sound_in : List ℤ → List ℕ → Track → Cursor → Sample
-sound_in lane bytes t c = sound_by (sample_in lane bytes t.playing) t.plain (t.length - c.remaining) c.fraction
-
--- what a stretch is played from: an entry that is at hand and as long as the record says, with at least two samples left, into a frame
-pub record Playable (lane : List ℤ) (bytes : List ℕ) (t : Track) (c : Cursor) (frame : List ℤ) (output : ℕ) : Type 0 where
-  pub holds : Holds lane bytes t.playing
-  pub whole : t.playing.length ≡ t.length
-  pub room : output ≤ FRAME_SAMPLES
-  pub long : length frame ≡ FRAME
-  pub two_left : 1 < c.remaining
-  pub inside : c.remaining ≤ t.length
+abbrev pub sound_in : List ℤ → List ℕ → Entry → Track → Cursor → Sample
+sound_in lane bytes e t c = sound_by (sample_in lane bytes e) t.plain (t.length - c.remaining) c.fraction

@@ -1,6 +1,6 @@
 -- Samples stored one after the other in a frame, and what is stored. Only the contracts of quick functions cite these. Assumes nothing:
 -- these are definitions.
-use Rattle.std.specs.Prelude.{Bool, true, ◌&&◌, cond, List, ℕ, zero, suc, ◌+◌, ◌*◌, ◌<◌, ℤ, pos, get_or, Float}
+use Rattle.std.specs.Prelude.{Bool, true, ◌&&◌, cond, List, ℕ, zero, suc, ◌+◌, ◌*◌, ℤ, pos, get_or, Float}
 use Rattle.std.specs.Float.{nan}
 use Rattle.std.specs.Float.Ieee.{eq}
 use Rattle.numbers.specs.Literals.{+0}
@@ -22,10 +22,6 @@ stored samples output (suc n) frame = put (stored samples output n frame) (outpu
 -- the sample at a place of a frame
 abbrev pub stored_at : List ℤ → ℕ → Sample
 stored_at frame k = stereo_sample (get_or frame (k * 2) (pos 0)) (get_or frame (k * 2 + 1) (pos 0))
-
--- each of the first n places is one of an entry of a size, and so is the next
-unfoldable pub Within : List ℕ → ℕ → ℕ → Type 0
-Within places n size = (i : ℕ) → i < n → get_or places i 0 + 1 < size
 
 -- the sample between two, which at a fraction of 0 is the first
 unfoldable pub blended : Sample → Sample → Float → Sample
@@ -58,17 +54,14 @@ module _ (lane : List ℤ) (bytes : List ℕ) (e : Entry) (places : List ℕ) wh
   abbrev pub blended_at : List Float → ℕ → Sample
   blended_at fractions i = blended (here_at i) (next_at i) (get_or fractions i nan)
 
--- between the values of a pair, and between the samples of two frames
+-- between the values of a pair
 abbrev pub pair_blend : List ℤ → List Float → ℕ → Sample
 pair_blend pairs fractions i = blended (both (stored_at pairs i).left) (both (stored_at pairs i).right) (get_or fractions i nan)
 
-abbrev pub sides_blend : List ℤ → List ℤ → List Float → ℕ → Sample
-sides_blend here next fractions i = blended (stored_at here i) (stored_at next i) (get_or fractions i nan)
-
--- what a track's entry gives at the place and the fraction noted
-abbrev pub noted_at : List ℤ → List ℕ → Track → List ℕ → List Float → ℕ → Sample
-noted_at lane bytes t places fractions i = sound_by (sample_in lane bytes t.playing) t.plain (get_or places i 0) (get_or fractions i nan)
+-- what an entry gives at the place and the fraction noted
+abbrev pub noted_at : List ℤ → List ℕ → Entry → Track → List ℕ → List Float → ℕ → Sample
+noted_at lane bytes e t places fractions i = sound_by (sample_in lane bytes e) t.plain (get_or places i 0) (get_or fractions i nan)
 
 -- what it gives so many steps on
-abbrev pub sound_after : List ℤ → List ℕ → Track → Cursor → ℕ → Sample
-sound_after lane bytes t c i = sound_in lane bytes t (after t.rate i c)
+abbrev pub sound_after : List ℤ → List ℕ → Entry → Track → Cursor → ℕ → Sample
+sound_after lane bytes e t c i = sound_in lane bytes e t (after t.rate i c)

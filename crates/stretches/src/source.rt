@@ -1,76 +1,113 @@
 // Where an entry's samples lie: PCM in one part of the window, ADPCM in the lane.
-ghost use Rattle.std.specs.Prelude.{◌≡◌, ◌+◌, ◌*◌, ◌≤◌, ◌<◌, length};
-ghost use Rattle.stretches.specs.Source.{size8, size16, size_of, pcm8_in, pcm16_in, sample_in, Holds, entry_bytes};
+ghost use Rattle.std.specs.Prelude.{◌≡◌, ℕ, ℤ, ◌+◌, ◌*◌, ◌≤◌, ◌<◌, length, IfSome};
+ghost use Rattle.stretches.specs.Source.{size8, size_of, held_by, valued_in, sample_in, entry_bytes, is_held};
+ghost use Rattle.stretches.specs.Source.{AtHand};
 
 use dequeue::align;
 use little::signed_at;
 use samples::{Sample, alike, high_byte};
+use track::player::Player;
 use voice::record::{Entry, Format};
-use window::physical;
+use window::Window;
 
 // One more than the last 32-bit address.
 const ADDRESSES: u64 = 4294967296;
 
+#[tactic(auto, unfolding(crate::specs::Source::size_of))]
 fn size_of(e: Entry) -> u32
     ensures value { result ≡ size_of e }
     ensures upper_bound { result ≤ 4 }
 {
-    let format = e.format;
-    match format {
-        Format::Pcm8 => { if e.stereo { 2 } else { 1 } }
-        Format::Pcm16 => { if e.stereo { 4 } else { 2 } }
-        Format::Adpcm => 1,
+    match (e.format, e.stereo) {
+        (Format::Pcm16, true) => 4,
+        (Format::Pcm8, true) | (Format::Pcm16, false) => 2,
+        (Format::Pcm8, false) | (Format::Adpcm, _) => 1,
     }
 }
 
 // The bytes of a PCM entry, or none where one is absent or lies past the last address.
-pub fn entry_bytes<'a>(window: &'a [u8], base: u32, e: Entry) -> &'a [u8]
-    ensures { result.now ≡ entry_bytes window.now base e }
+#[tactic(auto, unfolding(crate::specs::Source::entry_bytes))]
+fn entry_bytes<'a>(window: Window<'a>, e: Entry) -> &'a [u8]
+    ensures { result.now ≡ entry_bytes window.entry.bytes.now window.entry.base e }
 {
-    let count = (e.length as u64) * (size_of(e) as u64);
+    let count = u64::from(e.length) * u64::from(size_of(e));
     let start = align(e.address);
-    if (start as u64) + count < ADDRESSES {
-        return physical(window, base, start, count as u32);
+    if u64::from(start) + count >= ADDRESSES {
+        return &window.bytes[..0];
     }
-    &window[0..0]
+    window.physical(start, count as u32)
 }
 
-fn pcm8_in(bytes: &[u8], stereo: bool, place: usize) -> Sample
-    requires { (place + 1) * size8 stereo ≤ length bytes.now }
-    ensures { result ≡ pcm8_in bytes.now stereo place }
+// The sample at a place of values that a closure reads: in stereo there are two for each place, the left one first.
+fn pcm_in<F: Fn(usize) -> i16>(stereo: bool, place: usize, value: F) -> Sample
+    requires callable { (k : ℕ) → k < (place + 1) * size8 stereo → F.pre value k }
+    requires few { place < 9223372036854775808 }
+    ensures { (given : ℕ → ℤ)
+        → ((k : ℕ) → k < (place + 1) * size8 stereo → (v : ℤ) → F.post value k v → v ≡ given k)
+        → result ≡ valued_in given stereo place }
 {
     if stereo {
         return Sample {
-            left: high_byte(bytes[place * 2]),
-            right: high_byte(bytes[place * 2 + 1]),
+            left: value(place * 2),
+            right: value(place * 2 + 1),
         };
     }
-    alike(high_byte(bytes[place]))
+    alike(value(place))
 }
 
-fn pcm16_in(bytes: &[u8], stereo: bool, place: usize) -> Sample
-    requires { (place + 1) * size16 stereo ≤ length bytes.now }
-    ensures { result ≡ pcm16_in bytes.now stereo place }
+// Whether every sample of an entry is at hand, where so many were decoded.
+#[tactic(auto, unfolding(crate::specs::Source::is_held))]
+fn is_held(bytes: &[u8], decoded: u32, e: Entry) -> bool
+    ensures { result ≡ is_held bytes.now decoded e }
 {
-    if stereo {
-        return Sample {
-            left: signed_at(bytes, place * 4),
-            right: signed_at(bytes, place * 4 + 2),
-        };
+    match e.format {
+        Format::Adpcm => e.length <= decoded,
+        _ => bytes.len() > 0,
     }
-    alike(signed_at(bytes, place * 2))
 }
 
-// The sample at a place of an entry.
-pub fn sample_in(lane: &[i16], bytes: &[u8], e: Entry, place: usize) -> Sample
-    requires holds { Holds lane.now bytes.now e }
-    requires place_lt_length { place < e.length }
-    ensures { result ≡ sample_in lane.now bytes.now e place }
+// An entry that is as long as the record says, of which at least two samples are left, and the samples of which are all at hand.
+#[derive(Clone, Copy)]
+pub struct Source<'a> {
+    pub player: Player<'a>,
+    pub bytes: &'a [u8],
+    pub played: Entry,
+    pub ghost holds: { played.length * size_of played ≤ held_by player.lane.now bytes.now played.format },
+    pub ghost whole: { played.length ≡ player.track.length },
+    pub ghost two_left: { 1 < player.cursor.remaining },
+}
+
+// What a player plays from, where its entry is such a one.
+pub fn at_hand(player: Player<'_>) -> Option<Source<'_>>
+    ensures { IfSome result (λ s. (s.player ≡ player.entry)
+        × AtHand player.entry.window.bytes.now player.entry.window.base player.entry.track s.bytes.now s.played) }
 {
-    let format = e.format;
-    match format {
-        Format::Pcm8 => pcm8_in(bytes, e.stereo, place),
-        Format::Pcm16 => pcm16_in(bytes, e.stereo, place),
-        Format::Adpcm => alike(lane[place]),
+    let e = player.track.playing?;
+    let bytes = entry_bytes(player.window, e);
+    if e.length != player.track.length
+        || player.cursor.remaining < 2
+        || !is_held(bytes, player.track.decoded, e)
+    {
+        return None;
+    }
+    Some(Source {
+        player,
+        bytes,
+        played: e,
+    })
+}
+
+impl Source<'_> {
+    // The sample at a place of the entry.
+    #[tactic(auto, unfolding(crate::specs::Source::sample_in))]
+    pub fn sample(&self, place: usize) -> Sample
+        requires { place < self.now.played.length }
+        ensures { result ≡ sample_in self.now.player.lane.now self.now.bytes.now self.now.played place }
+    {
+        match self.played.format {
+            Format::Pcm8 => pcm_in(self.played.stereo, place, |k| high_byte(self.bytes[k])),
+            Format::Pcm16 => pcm_in(self.played.stereo, place, |k| signed_at(self.bytes, k * 2)),
+            Format::Adpcm => alike(self.player.lane[place]),
+        }
     }
 }

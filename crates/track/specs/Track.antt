@@ -1,11 +1,12 @@
 -- The sample that a voice produces at a place of the entry being played. Assumes nothing: these are definitions.
-use Rattle.std.specs.Prelude.{Bool, true, false, ◌||◌, cond, List, ℕ, ◌+◌, ◌-◌, min, Float, ℤ}
+use Rattle.std.specs.Prelude.{Bool, true, false, ◌||◌, cond, List, ℕ, ◌+◌, ◌-◌, min, Float, ℤ, Option, None, Some}
 use Rattle.std.specs.Float.Ieee.{eq}
 use Rattle.numbers.specs.Literals.{+0}
 use Rattle.mixing.specs.Interpolate.{interpolate}
 use Rattle.steps.specs.declared.step.Cursor.{Cursor}
 use Rattle.voice.specs.declared.record.Interpolation.{Interpolation}
-use Rattle.voice.specs.declared.record.Interpolation.TheVariants.{Polyphase, Linear, None}
+use Rattle.voice.specs.declared.record.Interpolation.TheVariants as interpolation
+use Rattle.voice.specs.declared.record.Entry.{Entry}
 use Rattle.voice.specs.declared.record.Voice.{Voice}
 use Rattle.samples.specs.Samples.{stereo_sample, silence, sample_at}
 use Rattle.samples.specs.declared.Sample.{Sample}
@@ -13,15 +14,14 @@ use Rattle.track.specs.declared.Track.{Track}
 
 -- samples are taken as they are; "Polyphase plays as linear"
 abbrev pub is_plain : Interpolation → Bool
-is_plain Polyphase = false
-is_plain Linear = false
-is_plain None = true
+is_plain interpolation.Polyphase = false
+is_plain interpolation.Linear = false
+is_plain interpolation.None = true
 
 -- of a record, what is fixed while its entry plays
 abbrev pub track_of : Voice → Track
 track_of v = record {
-  has_playing = v.has_playing;
-  playing = v.playing;
+  playing = cond v.has_playing (Some v.playing) None;
   length = v.length;
   decoded = v.decoded;
   rate = v.rate;
@@ -40,9 +40,12 @@ between_samples a b fraction =
 module _ (window : List ℕ) (base : ℕ) (lane : List ℤ) (t : Track) where
   -- The sample at a place of the entry, and past its end its last: so an entry "begun there at its end" gives its last, and an entry of
   -- length 0 its first. "No entry playing gives 0"
+  abbrev pub heard_by : Option Entry → ℕ → Sample
+  heard_by None place = silence
+  heard_by (Some e) place = sample_at window base lane t.decoded e (min place (e.length - 1))
+
   unfoldable pub heard_at : ℕ → Sample
-  heard_at place =
-      cond t.has_playing (sample_at window base lane t.decoded t.playing (min place (t.playing.length - 1))) silence
+  heard_at place = heard_by t.playing place
 
   -- how much of the entry was played: by the record's length, not the entry's own
   abbrev pub place_of : Cursor → ℕ

@@ -1,13 +1,14 @@
 -- What a call may rely on once none of 1 to 6 applies and no record is malformed: the lengths, and each record's form. By taking the
 -- numbers apart. Assumes nothing.
-use mathlib.Core.Path.{◌≡◌, refl, sym, subst}
-use mathlib.Core.Bool.{false, not}
+use mathlib.Core.Path.{◌≡◌, refl, subst}
+use mathlib.Core.Bool.{false}
 use mathlib.Core.List.{List}
 use Prim.Native.Nat.{ℕ, zero, suc, ◌<◌}
 use native.Mathlib.Omega.{arith}
-use lib.Dec.{T, T_not, eqb, eqb_refl, lit<}
+use lib.Dec.{lit<}
 use lib.IntN.{ℤ}
 use lib.ListN.{length, get_or}
+use Rattle.numbers.specs.Sizes.{MIXES}
 use Rattle.lists.specs.Some.{some}
 use Rattle.lists.proofs.Some.{none_each}
 use Rattle.voice.specs.Blank.{default_voice}
@@ -18,21 +19,26 @@ use Rattle.stems.specs.Call.{lengths, or_else}
 use Rattle.stems.specs.Memory.{Memory, lane_length}
 use Rattle.stems.specs.declared.Fixed.{Fixed}
 use Rattle.stems.proofs.Shape.{Fits, fits}
-use Rattle.calls.specs.Begin.{Fitting, Counted, lengths_code}
+use Rattle.calls.specs.Begin.{Fitting, Counted, lengths_of, lengths_code}
 
 -- a number that is not 0 comes before the next
 pub first_not_0 : (n next : ℕ) → (n ≡ 0 → ⊥) → or_else n next ≡ n
 first_not_0 zero next h = absurd (h refl)
 first_not_0 (suc n) next h = refl
 
--- what the test `number != 0` says where it holds
-pub some_number : (n : ℕ) → T (not (eqb n 0)) → n ≡ 0 → ⊥
-some_number n h e = T_not (eqb n 0) h (subst (λ (k : ℕ). T (eqb k 0)) (sym e) (eqb_refl 0))
-
 pub each_formed : (ys : List Voice) (lanes : ℕ) → some (malformed (lane_length lanes)) ys ≡ false → (j : ℕ) → j < length ys
     → WellFormed (lane_length lanes) (get_or ys j default_voice)
 each_formed ys lanes good j h =
     not_malformed_formed (lane_length lanes) _ (none_each (malformed (lane_length lanes)) ys default_voice good j h)
+
+-- the frame counter lies in both regions
+pub counted : (fx : Fixed) (region0 region1 window lanes mixes : ℕ) → Fitting fx region0 region1 window lanes mixes
+    → Counted fx region0 region1
+counted fx region0 region1 window lanes mixes fit =
+    let layout = (fits fx (lengths_of 24 region0 region1 window lanes) mixes fit).0.layout in record {
+      in0 = omega (arith, layout.within 3 (lit< tt));
+      in1 = omega (arith, layout.within 3 (lit< tt), layout.same);
+    }
 
 module _
     (fx : Fixed) (r0 r1 w : List ℕ) (ys : List Voice) (lanes mixes : List ℤ)
@@ -48,19 +54,8 @@ module _
   unfolding lengths
   all_voices_lem = room.0.records
 
-  pub begins : Counted fx (length r0) (length r1) × (length mixes ≡ 1920)
-  unfolding lengths
-  begins = (
-    record {
-      in0 = omega (arith, room.0.layout.within 3 (lit< tt));
-      in1 = omega (arith, room.0.layout.within 3 (lit< tt), room.0.layout.same);
-    },
-    room.1,
-  )
-
-  -- the lengths still fit once the mixes are set to 0
-  pub still_fitting : (fresh : List ℤ) → length fresh ≡ length mixes
-      → Fitting fx (length r0) (length r1) (length w) (length lanes) (length fresh)
-  still_fitting fresh long =
-      subst (λ (n : ℕ). lengths_code fx n (length r0) (length r1) (length w) (length lanes) (length fresh) ≡ 0) all_voices_lem
-      (subst (λ (n : ℕ). lengths_code fx (length ys) (length r0) (length r1) (length w) (length lanes) n ≡ 0) (sym long) zero_is)
+  -- the lengths fit what serves a voice
+  pub fitting : Fitting fx (length r0) (length r1) (length w) (length lanes) MIXES
+  fitting =
+      subst (λ (n : ℕ). lengths_code fx n (length r0) (length r1) (length w) (length lanes) MIXES ≡ 0) all_voices_lem
+      (subst (λ (n : ℕ). lengths_code fx (length ys) (length r0) (length r1) (length w) (length lanes) n ≡ 0) room.1 zero_is)

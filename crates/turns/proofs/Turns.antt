@@ -14,7 +14,7 @@ use Rattle.stems.specs.Memory.{Memory, lane_length, record_of}
 use Rattle.stems.specs.Inner.{LongAs}
 use Rattle.stems.specs.declared.Fixed.{Fixed}
 use Rattle.calls.specs.Refused.{refused_after}
-use Rattle.voice_turn.specs.Turn.{answer_to, region_by, lanes_with, taken_by, region0_by, region1_by, lanes_by, mixes_by}
+use Rattle.voice_turn.specs.Turn.{answer_to, region_by, lanes_with, record_by, region0_by, region1_by, lanes_by, mixes_by}
 use Rattle.turns.specs.Turns.{State, serve_one, LongAt}
 
 -- what an answer leaves in memory, thing by thing
@@ -41,24 +41,23 @@ module _ (fx : Fixed) (w : List ℕ) where
   abbrev pub memory_of : State → Memory
   memory_of s = record { region0 = s.region0; region1 = s.region1; window = w; records = s.voices; lanes = s.lanes }
 
-  module _ (i : ℕ) (s : State) where
+  module _ (second : Bool) (i : ℕ) (s : State) where
     abbrev got : Answer
-    got = answer fx s.turn.second i (memory_of s)
+    got = answer fx second i (memory_of s)
 
-    pub turn_memory : memory_of (serve_one fx w i s) ≡ serve fx s.turn.second i (memory_of s)
-    unfolding serve answer fed_in record_of answer_to taken_by region0_by region1_by lanes_by
-    turn_memory = put_is fx.layout s.turn.second i got (memory_of s)
+    pub turn_memory : memory_of (serve_one fx w second i s) ≡ serve fx second i (memory_of s)
+    unfolding serve answer fed_in record_of answer_to record_by region0_by region1_by lanes_by
+    turn_memory = put_is fx.layout second i got (memory_of s)
 
-    pub turn_mixes : (serve_one fx w i s).mixes ≡ mixes_after got s.mixes
+    pub turn_mixes : (serve_one fx w second i s).mixes ≡ mixes_after got s.mixes
     unfolding answer fed_in record_of answer_to mixes_by
     turn_mixes = refl
 
     pub turn_carried :
-        (serve_one fx w i s).turn
-        ≡ record { second = s.turn.second; refused = refused_after i (number_of got) s.turn.refused }
-    unfolding answer fed_in record_of answer_to taken_by
+        (serve_one fx w second i s).refused ≡ refused_after i (number_of got) s.refused
+    unfolding answer fed_in record_of answer_to record_by
     turn_carried = refl
 
-    pub turn_long : LongAt fx w i s → LongAs (lane_length (length s.lanes)) got
+    pub turn_long : LongAt fx w second i s → LongAs (lane_length (length s.lanes)) got
     unfolding answer fed_in record_of answer_to
     turn_long h = h

@@ -12,6 +12,7 @@ use lib.Dec.{ltb}
 use lib.ListN.{length, get_or, length-take, get_or-eq_default}
 use lib.Seq.{get_or-take}
 use native.Mathlib.Omega.{arith}
+use Rattle.std.proofs.lemmas.Bool.{false≢true}
 use borrow.Author.Tests.{le-ltb, lt-ltb, ltb-true, ltb-false, lt-leb, leb-false, not-true, not-false}
 use Rattle.lists.proofs.Bools.{and_yes, and_no, and_both, and_one, not_yes, not_no, or_yes, or_no, or_one, or_neither}
 use Rattle.lists.specs.Some.{some, every}
@@ -161,9 +162,6 @@ module _ (L : ℕ) where
 
 -- ---- malformed exactly if a sentence holds
 
-clash : {b : Bool} → b ≡ false → b ≡ true → ⊥
-clash e f = let z : ◌≡◌ {A = ℕ} 0 1 = cc in omega arith
-
 -- the numbers of the filters that are on, taken one by one
 numbers_in_range : (f : Filters) → filters_in_range f ≡ every in_range (filter_numbers f)
 numbers_in_range f =
@@ -295,12 +293,12 @@ module _ (L : ℕ) (v : Voice) where
   asked (queue_over_64 h) w = omega arith
   asked (remaining_over_length h) w = omega arith
   asked (decoded_over_L h) w = omega arith
-  asked (entry_longer_than_L q) w = clash w.entries (entry_asked q)
-  asked (rate_not_above_0 e) w = clash (above_asked e) w.rate
-  asked (rate_not_finite e) w = clash (finite_asked e) w.rate
-  asked (fraction_below_0 e) w = clash (below_asked e) w.fraction
-  asked (fraction_not_a_number e) w = clash (number_asked e) w.fraction
-  asked (filter_outside o) w = clash (outside_is v.filters o) w.filters
+  asked (entry_longer_than_L q) w = false≢true (sym w.entries ∙ entry_asked q)
+  asked (rate_not_above_0 e) w = false≢true (sym (above_asked e) ∙ w.rate)
+  asked (rate_not_finite e) w = false≢true (sym (finite_asked e) ∙ w.rate)
+  asked (fraction_below_0 e) w = false≢true (sym (below_asked e) ∙ w.fraction)
+  asked (fraction_not_a_number e) w = false≢true (sym (number_asked e) ∙ w.fraction)
+  asked (filter_outside o) w = false≢true (sym (outside_is v.filters o) ∙ w.filters)
 
 pub malformed_exactly : MalformedExactly
 malformed_exactly L v = (told L v, λ m. by m (malformed L v) refl)

@@ -1,19 +1,18 @@
 -- The laws of tidying: how long a tidied queue and tidied ramps are and what stands at a place of them; a tidied voice is blank where it
 -- must be, and a voice that is so is left alone. Assumes nothing.
-use Prim.Native.Nat.{ℕ, zero, suc, ◌+◌, ◌-◌, ◌/◌, ◌<◌, ◌≤◌}
+use Prim.Native.Nat.{ℕ, zero, suc, ◌/◌, ◌<◌, ◌≤◌}
 use mathlib.Core.Bool.{Bool, true, false, cond}
-use mathlib.Core.List.{List, ◌++◌}
+use mathlib.Core.List.{List}
 use mathlib.Core.Logic.{◌⊎◌, inl, inr}
 use mathlib.Core.Path.{◌≡◌, refl, sym, ap, ◌∙◌, subst}
 use lib.Dec.{ltb}
 use lib.Ieee.{Float}
-use lib.ListN.{length, take, drop, get_or, replicate, length-drop, length-replicate, get_or-replicate, take-append-drop}
+use lib.ListN.{length, get_or, replicate}
 use lib.ListN.{get_or-eq_default}
-use lib.Seq.{get_or-drop, ext_get_or}
+use lib.Seq.{ext_get_or}
 use native.Mathlib.Omega.{arith}
 use borrow.Author.Tests.{lt-ltb, le-ltb, ltb-true, ltb-false}
 use Rattle.lists.proofs.Bools.{cond_yes, cond_no}
-use Rattle.lists.proofs.Fill.{Filling}
 use Rattle.lists.proofs.Tabulate.{length_tabulate, get_d_tabulate}
 use Rattle.lists.proofs.Walk.{below_or}
 use Rattle.adpcm.specs.declared.History.{History}
@@ -54,13 +53,10 @@ unfolding tidy_under
 under_off on e h = cond_no (tidy_entry e) blank_entry h
 
 -- a queued entry, tidied
-pub front_at :
-    (n : ℕ) (queue : List Entry) (k : ℕ) → k < n → k < places → get_or (tidy_queue n queue) k blank_entry ≡ tidy_entry (get_or queue k blank_entry)
-front_at n queue k h l = queue_at n queue k blank_entry l ∙ under_on (ltb k n) (get_or queue k blank_entry) (lt-ltb k n h)
-
 pub queued_at :
     (n : ℕ) (queue : List Entry) (k : ℕ) → k < n → n ≤ places → get_or (tidy_queue n queue) k blank_entry ≡ tidy_entry (get_or queue k blank_entry)
-queued_at n queue k h l = front_at n queue k h (omega arith)
+queued_at n queue k h l =
+    queue_at n queue k blank_entry (omega arith) ∙ under_on (ltb k n) (get_or queue k blank_entry) (lt-ltb k n h)
 
 -- past the count, also past the queue's end
 past_at : (n : ℕ) (queue : List Entry) (k : ℕ) → n ≤ k → get_or (tidy_queue n queue) k blank_entry ≡ blank_entry
@@ -69,27 +65,6 @@ past_at n queue k h = by (below_or k places)
     by : (k < places) ⊎ (places ≤ k) → get_or (tidy_queue n queue) k blank_entry ≡ blank_entry
     by (inl l) = queue_at n queue k blank_entry l ∙ under_off (ltb k n) (get_or queue k blank_entry) (le-ltb k n h)
     by (inr g) = get_or-eq_default (tidy_queue n queue) blank_entry {n = k} (omega (arith, length_queue n queue))
-
--- blank entries that are filled from the front, as far as entries are queued: the places behind are blank already
-pub rest_blank : (n : ℕ) (queue now : List Entry) (i : ℕ) → ((k : ℕ) → i ≤ k → k < places → n ≤ k)
-    → Filling (tidy_queue n queue) (replicate places blank_entry) now i → now ≡ tidy_queue n queue
-rest_blank n queue now i far f =
-    f.stored ∙ ap (λ (r : List Entry). take i (tidy_queue n queue) ++ r) rest ∙ take-append-drop i (tidy_queue n queue)
-  where
-    old : List Entry
-    old = replicate places blank_entry
-
-    at : (k : ℕ) → i + k < places → get_or (drop i old) k blank_entry ≡ get_or (drop i (tidy_queue n queue)) k blank_entry
-    at k h =
-        get_or-drop i old k blank_entry ∙ get_or-replicate places (i + k) blank_entry blank_entry h
-        ∙ sym (past_at n queue (i + k) (far (i + k) (omega arith) h)) ∙ sym (get_or-drop i (tidy_queue n queue) k blank_entry)
-
-    rest : drop i old ≡ drop i (tidy_queue n queue)
-    rest =
-        let long : length old ≡ places = length-replicate places blank_entry in
-        ext_get_or blank_entry (drop i old) (drop i (tidy_queue n queue))
-        (length-drop i old ∙ ap (λ (m : ℕ). m - i) (long ∙ sym (length_queue n queue)) ∙ sym (length-drop i (tidy_queue n queue)))
-        (λ k b. at k (omega (arith, length-drop i old, long, b)))
 
 -- ---- a tidied voice is blank where it must be
 

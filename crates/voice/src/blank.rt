@@ -1,9 +1,10 @@
 // What stands where something is off or empty, and a voice as it is before anything is set.
-ghost use Rattle.std.specs.Prelude.{◌≡◌};
+ghost use Rattle.std.specs.Prelude.{◌≡◌, cond};
 ghost use Rattle.voice.specs.Blank.{blank_history, blank_entry, default_voice};
 
 use crate::record::{Entry, Format, Interpolation, Kinds, Voice};
 use adpcm::History;
+use filters::state::Filters;
 
 // How many entries a record has room for.
 pub const PLACES: usize = 64;
@@ -11,16 +12,23 @@ pub const PLACES: usize = 64;
 // How many of them may be queued.
 pub const LIMIT: usize = 64;
 
+// A value under a mark: it stays where the mark is on, and its blank stands where the mark is off.
+pub fn kept_if<T: Copy>(on: bool, value: T, blank: T) -> T
+    ensures { result ≡ cond on value blank }
+{
+    if on { value } else { blank }
+}
+
 pub fn blank_history() -> History
     ensures { result ≡ blank_history }
 {
     History { yn1: 0, yn2: 0 }
 }
 
+#[tactic(auto, unfolding(crate::specs::Blank::blank_entry))]
 pub fn blank_entry() -> Entry
     ensures { result ≡ blank_entry }
 {
-    let adpcm = blank_history();
     Entry {
         address: 0,
         length: 0,
@@ -29,39 +37,45 @@ pub fn blank_entry() -> Entry
         looping: false,
         id: 0,
         has_adpcm: false,
-        adpcm,
+        adpcm: blank_history(),
         from_queue: false,
         play_position: 0,
         has_played: false,
     }
 }
 
+// What fills the unused places of an `ArrayVec` of entries.
+impl Default for Entry {
+    ghost is_default = { λ e. e ≡ blank_entry };
+
+    fn default() -> Entry {
+        blank_entry()
+    }
+}
+
+#[tactic(auto, unfolding(crate::specs::Blank::default_voice))]
 pub fn default_voice() -> Voice
     ensures { result ≡ default_voice }
 {
-    let b = blank_entry();
-    let kinds = Kinds {
-        format: Format::Pcm16,
-        interpolation: Interpolation::Polyphase,
-    };
-    let filters = filters::defaults::no_filters();
-    let history = blank_history();
     Voice {
         enabled: false,
         sync_count: 0,
         rate: 1.0,
-        kinds,
+        kinds: Kinds {
+            format: Format::Pcm16,
+            interpolation: Interpolation::Polyphase,
+        },
         stereo: false,
-        filters,
+        filters: Filters::default(),
         gain: [0.0; 12],
         has_ramp: [false; 3],
         ramp: [0.0; 12],
         coefficients: [0; 16],
-        history,
-        queue: [b; PLACES],
+        history: blank_history(),
+        queue: [blank_entry(); PLACES],
         queued: 0,
         has_playing: false,
-        playing: b,
+        playing: blank_entry(),
         decoded: 0,
         remaining: 0,
         length: 0,

@@ -1,9 +1,10 @@
-// The record of a voice. Where the source has an `Option`, a mark stands beside the data.
+// The record of a voice, as document 01 has it: where the source has an `Option` a mark stands beside its data, which are there also where
+// the mark is off, arrays are flat, and the queue has 64 places and a count.
 use crate::blank::PLACES;
 use adpcm::History;
 use filters::state::Filters;
 
-#[derive(Clone, Copy)]
+#[derive(Clone, Copy, PartialEq, Eq)]
 pub enum Format {
     Pcm8,
     Pcm16,
@@ -11,7 +12,7 @@ pub enum Format {
 }
 
 // Polyphase is a value of its own and plays as linear.
-#[derive(Clone, Copy)]
+#[derive(Clone, Copy, PartialEq, Eq)]
 pub enum Interpolation {
     Polyphase,
     Linear,
@@ -25,7 +26,7 @@ pub struct Entry {
     pub address: u32,
     pub length: u32,
     pub play_position: u32,
-    // the ADPCM history to start from, where its mark is on
+    // the ADPCM history to start from, where its mark is on: document 01's record has the mark beside it, so this is no `Option`
     pub adpcm: History,
     pub id: u16,
     pub format: Format,
@@ -36,7 +37,7 @@ pub struct Entry {
     pub has_played: bool,
 }
 
-// What a store to a single field does not reach: enums are replaced together.
+// The two enums of a voice.
 #[derive(Clone, Copy)]
 pub struct Kinds {
     pub format: Format,
@@ -50,17 +51,19 @@ pub struct Voice {
     pub rate: f64,
     pub kinds: Kinds,
     pub stereo: bool,
+    // each filter with its mark beside it, as document 01's record has them
     pub filters: Filters,
-    // by mix, then channel
+    // by mix, then channel: flat, as in document 01's record
     pub gain: [f32; 12],
-    // the gains that a mix fades from, where its mark is on
+    // the gains that a mix fades from, where its mark is on: document 01's record has the marks beside them, so these are no `Option`s
     pub has_ramp: [bool; 3],
     pub ramp: [f32; 12],
     pub coefficients: [i16; 16],
     pub history: History,
+    // document 01's 64-place queue with its count: the places past the count are blank, so this is no `ArrayVec`
     pub queue: [Entry; PLACES],
     pub queued: usize,
-    // the entry being played, where its mark is on
+    // the entry being played, where its mark is on: document 01's record has the mark beside it, so this is no `Option`
     pub has_playing: bool,
     pub playing: Entry,
     // how many samples of the lane were decoded

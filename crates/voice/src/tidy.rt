@@ -1,121 +1,66 @@
 // A voice as serving leaves it: what no mark or count covers is blank.
-ghost use Rattle.std.specs.Prelude.{cond, ◌≡◌};
-ghost use Rattle.filters.specs.Defaults.{default_simple, default_biquad};
-ghost use Rattle.voice.specs.Tidy.{tidy_entry, tidy_under, tidy_gain, tidy_queue, tidy_ramp, tidy_filters, tidied};
-ghost use Rattle.voice.specs.Set.{set_voice_queue, set_voice_ramp};
+ghost use Rattle.std.specs.Prelude.{◌≡◌};
+ghost use Rattle.voice.specs.Tidy.{tidy_entry, tidy_under, tidy_queue, tidy_ramp, tidy_filters, tidied};
 
-use crate::blank::{PLACES, blank_entry, blank_history};
+use crate::blank::{PLACES, blank_entry, blank_history, kept_if};
 use crate::record::{Entry, Voice};
-use filters::defaults::{default_biquad, default_simple};
 use filters::state::{BiquadFilter, Filters, SimpleFilter};
 
+#[tactic(auto, unfolding(crate::specs::Tidy::tidy_entry))]
 pub fn tidy_entry(e: Entry) -> Entry
     ensures { result ≡ tidy_entry e }
 {
-    if e.has_adpcm {
-        return e;
-    }
     let mut t = e;
-    let h = blank_history();
-    t.adpcm = h;
+    t.adpcm = kept_if(e.has_adpcm, e.adpcm, blank_history());
     t
 }
 
 // An entry under a mark.
+#[tactic(auto, unfolding(crate::specs::Tidy::tidy_under))]
 pub fn tidy_under(on: bool, e: Entry) -> Entry
     ensures { result ≡ tidy_under on e }
 {
-    if on {
-        return tidy_entry(e);
-    }
-    blank_entry()
+    kept_if(on, tidy_entry(e), blank_entry())
 }
 
-// The entries that are queued stay, behind them blank ones stand from the start.
-fn tidy_queue(v: Voice) -> Voice
-    ensures { result ≡ set_voice_queue (tidy_queue v.queued v.queue) v }
+// The entries that are queued stay, and the places behind them are blank.
+fn tidy_queue(queue: &mut [Entry; PLACES], queued: usize)
+    ensures { queue.new ≡ tidy_queue queued queue.old }
 {
-    let n = v.queued;
-    let given = v.queue;
-    let b = blank_entry();
-    let mut q = [b; PLACES];
-    let mut i: usize = 0;
-    while i < PLACES && i < n {
-        let e = given[i];
-        let t = tidy_entry(e);
-        q[i] = t;
-        i += 1;
+    for (place, e) in queue.iter_mut().enumerate() {
+        *e = tidy_under(place < queued, *e);
     }
-    let mut w = v;
-    w.queue = q;
-    w
 }
 
-// A number of a ramp under a mark.
-fn tidy_gain(on: bool, gain: f32) -> f32
-    ensures { result ≡ tidy_gain on gain }
+// The ramps by the marks of their mixes, four numbers to a mix.
+fn tidy_ramp(ramp: &mut [f32; 12], marks: [bool; 3])
+    ensures { ramp.new ≡ tidy_ramp marks ramp.old }
 {
-    if on { gain } else { 0.0 }
-}
-
-fn tidy_ramp(v: Voice) -> Voice
-    ensures { result ≡ set_voice_ramp (tidy_ramp v.has_ramp v.ramp) v }
-{
-    let marks = v.has_ramp;
-    let mut ramp = v.ramp;
-    let mut k: usize = 0;
-    while k < 12 {
-        let x = tidy_gain(marks[k / 4], ramp[k]);
-        ramp[k] = x;
-        k += 1;
+    for (k, gain) in ramp.iter_mut().enumerate() {
+        *gain = kept_if(marks[k / 4], *gain, 0.0);
     }
-    let mut w = v;
-    w.ramp = ramp;
-    w
 }
 
-// A filter under a mark.
-fn tidy_simple(on: bool, f: SimpleFilter) -> SimpleFilter
-    ensures { result ≡ cond on f default_simple }
-{
-    if on {
-        return f;
-    }
-    default_simple()
-}
-
-fn tidy_biquad(on: bool, f: BiquadFilter) -> BiquadFilter
-    ensures { result ≡ cond on f default_biquad }
-{
-    if on {
-        return f;
-    }
-    default_biquad()
-}
-
+#[tactic(auto, unfolding(crate::specs::Tidy::tidy_filters))]
 pub fn tidy_filters(f: Filters) -> Filters
     ensures { result ≡ tidy_filters f }
 {
-    let simple = f.simple;
-    let biquad = f.biquad;
     Filters {
         has_simple: f.has_simple,
-        simple: tidy_simple(f.has_simple, simple),
+        simple: kept_if(f.has_simple, f.simple, SimpleFilter::default()),
         has_biquad: f.has_biquad,
-        biquad: tidy_biquad(f.has_biquad, biquad),
+        biquad: kept_if(f.has_biquad, f.biquad, BiquadFilter::default()),
     }
 }
 
+#[tactic(auto, unfolding(crate::specs::Tidy::tidied))]
 pub fn tidy(v: Voice) -> Voice
     ensures { result ≡ tidied v }
 {
-    let queue = tidy_queue(v);
-    let mut w = tidy_ramp(queue);
-    let f = w.filters;
-    let g = tidy_filters(f);
-    w.filters = g;
-    let e = w.playing;
-    let t = tidy_under(w.has_playing, e);
-    w.playing = t;
+    let mut w = v;
+    tidy_queue(&mut w.queue, w.queued);
+    tidy_ramp(&mut w.ramp, w.has_ramp);
+    w.filters = tidy_filters(w.filters);
+    w.playing = tidy_under(w.has_playing, w.playing);
     w
 }

@@ -9,8 +9,7 @@ use borrow.Author.Tests.{eq-eqb, ne_eqb}
 use Rattle.lists.proofs.Bools.{cond_yes, cond_no}
 use Rattle.voice.specs.declared.record.Voice.{Voice}
 use Rattle.status.specs.Status.{status_of}
-use Rattle.config.specs.Parsed.{configured, bytes_after}
-use Rattle.config.specs.declared.parse.Configured.{Configured}
+use Rattle.config.specs.Parsed.{Configured, configured, bytes_after}
 use Rattle.voice_frame.specs.VoiceFrame.{Fed, Answer, served, refused, number, settled_voice, given, voice_frame, number_of}
 use Rattle.voice_frame.specs.VoiceFrame.{voice_after, lane_after, configuration_after, status_after, mixes_after}
 use Rattle.voice_frame.specs.VoiceFrame.{sounding, sounding_lane, parts_of, mixed_with, left}

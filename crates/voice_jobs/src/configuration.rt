@@ -1,50 +1,37 @@
 // A configuration read into the record.
-ghost use Rattle.std.specs.Prelude.{◌≡◌, length};
-
-use config::parse::Configured;
-use record_reader::record_of;
+use config::parse::configure as configured;
+use fields::config::CONFIG_SIZE;
+use record_reader::RECORD;
+use record_reader::formed::formed_record;
 use record_writer::put_record;
-use voice::malformed::malformed;
-use voice::record::Voice;
+use refusals::Refusal;
+use settings::steps::COEFFICIENT_BYTES;
 use voice::tidy::tidy;
 
-// Reads the record and writes it back as serving leaves it, or answers 7 where it is malformed: what `configure` does besides configuring.
-pub fn record(lane: usize, bytes: &mut [u8; 2456]) -> u8 {
-    let v = record_of(bytes);
-    if malformed(v, lane) {
-        return 7;
-    }
-    let after = tidy(v);
-    put_record(after, bytes);
-    0
+// Reads the record and writes it back as serving leaves it: what `configure` does besides configuring.
+pub fn record(lane: usize, bytes: &mut [u8; RECORD]) -> Result<(), Refusal> {
+    let v = formed_record(bytes, lane)?;
+    put_record(tidy(v), bytes);
+    Ok(())
 }
 
-// The record as serving leaves it: a refused voice is untouched, of a served one what is off or past the count is blank.
-fn left(done: Configured) -> Voice {
-    let after = done.voice;
-    if done.number == 0 {
-        return tidy(after);
-    }
-    after
-}
-
-// Serves a voice's configuration and answers its number, or 7 where the record is malformed.
+// Serves a voice's configuration. Of a record that is served, what is off or past the count is blank after it; one that is refused is
+// untouched.
 pub fn configure(
     lane: usize,
-    bytes: &mut [u8; 2456],
-    configuration: &mut [u8],
-    coefficients: &[u8],
-) -> u8
-    requires configuration_len { length configuration.old ≡ 192 }
-    requires coefficients_len { length coefficients.now ≡ 32 }
-{
-    let v = record_of(bytes);
-    if malformed(v, lane) {
-        return 7;
+    bytes: &mut [u8; RECORD],
+    configuration: &mut [u8; CONFIG_SIZE],
+    coefficients: &[u8; COEFFICIENT_BYTES],
+) -> Result<(), Refusal> {
+    let v = formed_record(bytes, lane)?;
+    match configured(v, configuration, coefficients, lane) {
+        Ok(after) => {
+            put_record(tidy(after), bytes);
+            Ok(())
+        }
+        Err(refusal) => {
+            put_record(v, bytes);
+            Err(refusal)
+        }
     }
-    let done = config::parse::configure(v, configuration, coefficients, lane);
-    let number = done.number;
-    let after = left(done);
-    put_record(after, bytes);
-    number
 }

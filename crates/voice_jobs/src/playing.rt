@@ -1,46 +1,30 @@
 // A frame played.
 use crate::filtering::filtered;
 use filters::range::filters_in_range;
+use numbers::sizes::FRAME_SAMPLES;
 use play::frame::{Played, play_frame};
-use record_reader::record_of;
+use record_reader::RECORD;
+use record_reader::formed::served_record;
 use record_writer::put_record;
-use voice::malformed::malformed;
+use refusals::Refusal;
 use voice::record::Voice;
 use voice::tidy::tidy;
+use window::Window;
 
 // The record with the samples that were produced filtered, where a filter is on. A frame that played keeps filters and count in range.
 fn heard(played: Played) -> Voice {
-    let produced = played.produced;
-    let mut w = played.voice;
-    let given = w.filters;
-    if given.has_simple | given.has_biquad {
-        if produced <= 160 {
-            if filters_in_range(given) {
-                let samples = w.frame;
-                let done = filtered(samples, produced, given);
-                let frame = done.frame;
-                let after = done.filters;
-                w.filters = after;
-                w.frame = frame;
-            }
-        }
+    let v = played.voice;
+    let f = v.filters;
+    if (f.has_simple || f.has_biquad) && played.produced <= FRAME_SAMPLES && filters_in_range(f) {
+        return filtered(v, played.produced);
     }
-    w
+    v
 }
 
-// Plays one frame and answers 0. Refuses with 5 a lane of more than 65,536 samples, and with 7 a record that is malformed for the lane.
-pub fn play(bytes: &mut [u8; 2456], window: &[u8], base: u32, lane: &mut [i16]) -> u8 {
-    let room = lane.len();
-    if room > 65536 {
-        return 5;
-    }
-    let v = record_of(bytes);
-    if malformed(v, room) {
-        return 7;
-    }
-    let played = play_frame(v, window, base, lane);
-    let sound = heard(played);
-    let after = tidy(sound);
-    put_record(after, bytes);
-    0
+// Plays one frame. Refuses a lane of more than 65,536 samples, and a record that is malformed for the lane.
+pub fn play(bytes: &mut [u8; RECORD], window: Window<'_>, lane: &mut [i16]) -> Result<(), Refusal> {
+    let v = served_record(bytes, lane.len())?;
+    let played = play_frame(v, window, lane);
+    put_record(tidy(heard(played)), bytes);
+    Ok(())
 }

@@ -14,7 +14,7 @@ use Rattle.filters.specs.Filter.{simple_value, simple_after, biquad_value, moved
 use Rattle.filters.specs.Identity.{AllFit}
 use Rattle.filters.specs.Process.{pass_simple, pass_biquad, pass, passed_from, filters_after}
 use Rattle.filters.specs.Range.{filters_in_range}
-use Rattle.filters.specs.declared.process.Passed.{Passed}
+use Rattle.filters.specs.Passed.{Passed}
 use Rattle.filters.specs.declared.state.BiquadFilter.{BiquadFilter}
 use Rattle.filters.specs.declared.state.Filters.{Filters}
 use Rattle.filters.specs.declared.state.SimpleFilter.{SimpleFilter}

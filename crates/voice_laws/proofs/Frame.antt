@@ -23,7 +23,7 @@ use Rattle.voice.proofs.Tidied.{tidied_blank}
 use Rattle.settings.specs.Dirty.{dirty_in}
 use Rattle.queueing.specs.Refusal.{refusal_of}
 use Rattle.config.specs.Parsed.{settled, to_add, refusal, parsed, configured}
-use Rattle.config.specs.declared.parse.Configured.{Configured}
+use Rattle.config.specs.Parsed.{Configured}
 use Rattle.config_laws.proofs.Formed as set-formed
 use Rattle.config_laws.proofs.Ranged as set-ranged
 use Rattle.config_laws.proofs.Sized as set-sized

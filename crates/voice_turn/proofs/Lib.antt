@@ -1,3 +1,2 @@
 pub mod Back
 pub mod Rooms
-pub mod Turns

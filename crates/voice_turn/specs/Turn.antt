@@ -8,13 +8,10 @@ use Rattle.layout.specs.declared.Layout.{Layout}
 use Rattle.adpcm.specs.Sizes.{most_samples}
 use Rattle.settings.specs.Steps.{coefficient_bytes}
 use Rattle.voice.specs.declared.record.Voice.{Voice}
-use Rattle.voice_frame.specs.VoiceFrame.{Answer, served, refused, voice_frame, number_of, voice_after, mixes_after}
+use Rattle.voice_frame.specs.VoiceFrame.{Answer, served, refused, voice_frame, voice_after, mixes_after}
 use Rattle.stems.specs.Memory.{lane_length, lane_at}
 use Rattle.stems.specs.Call.{fed_with, written}
 use Rattle.stems.specs.declared.Fixed.{Fixed}
-use Rattle.calls.specs.Refused.{refused_after}
-use Rattle.calls.specs.declared.begin.Turn.{Turn}
-use Rattle.voice_turn.specs.declared.turn.Taken.{Taken}
 
 -- ---- one voice's turn
 
@@ -41,21 +38,18 @@ lanes_with i (served g) lanes = splice lanes (lane_at i lanes) g.lane
 lanes_with i (refused n) lanes = lanes
 
 module _
-    (v : Voice) (i : ℕ) (t : Turn) (fx : Fixed) (region0 region1 window : List ℕ) (lanes mixes : List ℤ) where
+    (v : Voice) (i : ℕ) (second : Bool) (fx : Fixed) (region0 region1 window : List ℕ) (lanes mixes : List ℤ) where
   abbrev pub answered : Answer
-  answered = answer_to fx t.second i v region0 region1 window lanes
+  answered = answer_to fx second i v region0 region1 window lanes
 
-  unfoldable pub taken_by : Taken
-  taken_by = record {
-    v = voice_after answered v;
-    turn = record { second = t.second; refused = refused_after i (number_of answered) t.refused };
-  }
+  unfoldable pub record_by : Voice
+  record_by = voice_after answered v
 
   unfoldable pub region0_by : List ℕ
-  region0_by = region_by fx.layout i answered (not t.second) region0
+  region0_by = region_by fx.layout i answered (not second) region0
 
   unfoldable pub region1_by : List ℕ
-  region1_by = region_by fx.layout i answered t.second region1
+  region1_by = region_by fx.layout i answered second region1
 
   unfoldable pub lanes_by : List ℤ
   lanes_by = lanes_with i answered lanes

@@ -1,20 +1,28 @@
 // A voice's frame in the parts of lent memory that are the voice's own.
-ghost use Rattle.std.specs.Prelude.{◌≡◌, true, false, ◌+◌, ◌≤◌, length};
+ghost use Rattle.std.specs.Prelude.{◌≡◌, ◌+◌, ◌≤◌, true, false, length};
+ghost use Rattle.std.specs.Result.{result_unwrap_or};
+ghost use Rattle.refusals.specs.Numbers.{number_of as code};
 ghost use Rattle.lists.specs.Splice.{part};
 ghost use Rattle.settings.specs.Steps.{coefficient_bytes};
+ghost use Rattle.fields.specs.Fields.{configuration, status, total};
+ghost use Rattle.adpcm.specs.Sizes.{most_samples};
+ghost use Rattle.numbers.specs.Sizes.{MIXES};
 ghost use Rattle.stems.specs.Memory.{lane_length};
 ghost use Rattle.stems.specs.Inner.{LongAs};
 ghost use Rattle.voice.specs.Malformed.{WellFormed};
-ghost use Rattle.voice_frame.specs.VoiceFrame.{number_of, voice_after, mixes_after};
+ghost use Rattle.voice_frame.specs.VoiceFrame.{fed, voice_frame, number_of, voice_after, lane_after};
+ghost use Rattle.voice_frame.specs.VoiceFrame.{configuration_after, status_after, mixes_after};
 ghost use Rattle.voice_turn.specs.Turn.{Room, answer_to, region_by, lanes_with};
 
 use calls::refused::VOICES;
 use fields::config::CONFIG_SIZE;
 use fields::status::STATUS_SIZE;
-use little::copy;
+use numbers::sizes::MIXES;
+use refusals::Refusal;
 use stems::Fixed;
 use voice::record::Voice;
-use voice_frame::serve::{Served, serve};
+use voice_frame::serve::serve;
+use window::Window;
 
 // The bytes of a voice's coefficients.
 const COEFFICIENTS: usize = 32;
@@ -24,10 +32,41 @@ fn coefficients_at(region: &[u8], at: usize) -> [u8; COEFFICIENTS]
     requires { at + coefficient_bytes ≤ length region.now }
     ensures { result ≡ part at coefficient_bytes region.now }
 {
-    let mut bytes = [0u8; COEFFICIENTS];
-    let end = at + COEFFICIENTS;
-    copy(&region[at..end], &mut bytes);
-    bytes
+    *region[at..at + COEFFICIENTS]
+        .first_chunk::<COEFFICIENTS>()
+        .unwrap()
+}
+
+// Serves a voice's frame on its own parts, whose lengths are those of the arrays that a frame takes.
+fn serve_parts(
+    v: Voice,
+    lane: &mut [i16],
+    bytes: &mut [u8],
+    coefficients: &[u8; COEFFICIENTS],
+    window: Window<'_>,
+    mixes: &mut [i32; MIXES],
+    report: &mut [u8],
+) -> Result<Voice, Refusal>
+    requires well_formed { WellFormed (length lane.old) v }
+    requires lane_len_bound { length lane.old ≤ most_samples }
+    requires bytes_len { length bytes.old ≡ total configuration }
+    requires report_len { length report.old ≡ total status }
+    ensures number { code result ≡ number_of (voice_frame
+        (fed v lane.old bytes.old coefficients.now window.entry.bytes.now window.entry.base)) }
+    ensures record { result_unwrap_or result v ≡ voice_after (voice_frame
+        (fed v lane.old bytes.old coefficients.now window.entry.bytes.now window.entry.base)) v }
+    ensures lane { lane.new ≡ lane_after (voice_frame
+        (fed v lane.old bytes.old coefficients.now window.entry.bytes.now window.entry.base)) lane.old }
+    ensures configuration { bytes.new ≡ configuration_after (voice_frame
+        (fed v lane.old bytes.old coefficients.now window.entry.bytes.now window.entry.base)) bytes.old }
+    ensures mixes { mixes.new ≡ mixes_after (voice_frame
+        (fed v lane.old bytes.old coefficients.now window.entry.bytes.now window.entry.base)) mixes.old }
+    ensures status { report.new ≡ status_after (voice_frame
+        (fed v lane.old bytes.old coefficients.now window.entry.bytes.now window.entry.base)) report.old }
+{
+    let bytes = bytes.as_mut_array::<CONFIG_SIZE>().unwrap();
+    let report = report.as_mut_array::<STATUS_SIZE>().unwrap();
+    serve(v, lane, bytes, coefficients, window, mixes, report)
 }
 
 // Serves voice i's frame, or refuses the voice, by the region that is read and the other one.
@@ -39,13 +78,13 @@ pub fn serve_in(
     other: &mut [u8],
     window: &[u8],
     lanes: &mut [i16],
-    mixes: &mut [i32],
-) -> Served
+    mixes: &mut [i32; MIXES],
+) -> Result<Voice, Refusal>
     requires well_formed { WellFormed (lane_length (length lanes.old)) v }
-    requires room { Room fixed.layout i (length read.old) (length other.old) (length lanes.old) (length mixes.old) }
-    ensures number { result.number ≡ number_of (answer_to fixed false i v
+    requires room { Room fixed.layout i (length read.old) (length other.old) (length lanes.old) MIXES }
+    ensures number { code result ≡ number_of (answer_to fixed false i v
         read.old other.old window.now lanes.old) }
-    ensures record { result.voice ≡ voice_after (answer_to fixed false i v
+    ensures record { result_unwrap_or result v ≡ voice_after (answer_to fixed false i v
         read.old other.old window.now lanes.old) v }
     ensures read { read.new ≡ region_by fixed.layout i (answer_to fixed false i v
         read.old other.old window.now lanes.old) true read.old }
@@ -59,23 +98,23 @@ pub fn serve_in(
         read.old other.old window.now lanes.old) }
 {
     let l = fixed.layout;
-    let place = (l.coefficients as usize) + COEFFICIENTS * i;
+    let place = l.coefficients as usize + COEFFICIENTS * i;
     let coefficients = coefficients_at(read, place);
+    let start = l.configurations as usize + CONFIG_SIZE * i;
+    let told = l.statuses as usize + STATUS_SIZE * i;
     let lane = lanes.len() / VOICES;
     let from = i * lane;
-    let to = from + lane;
-    let start = (l.configurations as usize) + CONFIG_SIZE * i;
-    let end = start + CONFIG_SIZE;
-    let told = (l.statuses as usize) + STATUS_SIZE * i;
-    let last = told + STATUS_SIZE;
-    serve(
+    let window = Window {
+        bytes: window,
+        base: fixed.base,
+    };
+    serve_parts(
         v,
-        &mut lanes[from..to],
-        &mut read[start..end],
+        &mut lanes[from..from + lane],
+        &mut read[start..start + CONFIG_SIZE],
         &coefficients,
         window,
-        fixed.base,
         mixes,
-        &mut other[told..last],
+        &mut other[told..told + STATUS_SIZE],
     )
 }

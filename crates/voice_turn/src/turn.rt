@@ -1,69 +1,89 @@
 // One voice's turn in a call.
-ghost use Rattle.std.specs.Prelude.{◌≡◌, ◌<◌, ◌≤◌, length};
-ghost use Rattle.calls.specs.Begin.{Fitting};
-ghost use Rattle.calls.specs.Refused.{refused_after};
+ghost use Rattle.std.specs.Prelude.{◌≡◌, ◌<◌, length};
+ghost use Rattle.std.specs.Result.{result_unwrap_or};
+ghost use Rattle.refusals.specs.Numbers.{number_of as code};
+ghost use Rattle.calls.specs.Begin.{Fitting, is_second};
+ghost use Rattle.numbers.specs.Sizes.{MIXES};
 ghost use Rattle.stems.specs.Memory.{VOICES, lane_length};
 ghost use Rattle.stems.specs.Inner.{LongAs};
 ghost use Rattle.voice.specs.Malformed.{WellFormed};
-ghost use Rattle.voice_turn.specs.Turn.{answer_to, taken_by, region0_by, region1_by, lanes_by, mixes_by};
+ghost use Rattle.voice_frame.specs.VoiceFrame.{number_of};
+ghost use Rattle.voice_turn.specs.Turn.{answer_to, record_by, region0_by, region1_by, lanes_by, mixes_by};
 
 use crate::own::serve_in;
-use calls::begin::{Turn, carry_on};
+use numbers::sizes::MIXES;
+use refusals::Refusal;
+use region::Region;
 use stems::Fixed;
 use voice::record::Voice;
-use voice_frame::serve::Served;
 
-// What a voice's turn comes to: what the call carries on, and the voice's record.
-#[derive(Clone, Copy)]
-pub struct Taken {
-    pub turn: Turn,
-    pub v: Voice,
-}
-
-// What the turn of voice i comes to, with its number and its record.
-fn hand_on(turn: Turn, i: usize, done: Served) -> Taken
-    requires i_bound { i < VOICES }
-    requires count_bound { turn.refused.count < VOICES }
-    ensures record { result.v ≡ done.voice }
-    ensures second { result.turn.second ≡ turn.second }
-    ensures refused { result.turn.refused ≡ refused_after i done.number turn.refused }
-{
-    let next = carry_on(turn, i, done.number);
-    let v = done.voice;
-    Taken { turn: next, v }
-}
-
-// Takes voice i's turn: its frame is served or refused in lent memory.
-pub fn take_turn(
+// Serves voice i's frame, or refuses the voice, by the region that is read.
+// Memory is lent thing by thing: a struct of `&mut` would need in each contract, beside what each thing becomes, that it is the same loan.
+fn serve_by(
     v: Voice,
     i: usize,
-    turn: Turn,
+    read: Region,
     fixed: Fixed,
     region0: &mut [u8],
     region1: &mut [u8],
     window: &[u8],
     lanes: &mut [i16],
-    mixes: &mut [i32],
-) -> Taken
-    requires { (i < VOICES) × (turn.refused.count ≤ i) × WellFormed (lane_length (length lanes.old)) v
-        × Fitting fixed (length region0.old) (length region1.old) (length window.now) (length lanes.old) (length mixes.old) }
-    ensures result { result ≡ taken_by v i turn fixed
+    mixes: &mut [i32; MIXES],
+) -> Result<Voice, Refusal>
+    requires i_bound { i < VOICES }
+    requires well_formed { WellFormed (lane_length (length lanes.old)) v }
+    requires fitting { Fitting fixed (length region0.old) (length region1.old) (length window.now) (length lanes.old) MIXES }
+    ensures number { code result ≡ number_of (answer_to fixed (is_second read) i v
+        region0.old region1.old window.now lanes.old) }
+    ensures record { result_unwrap_or result v ≡ record_by v i (is_second read) fixed
         region0.old region1.old window.now lanes.old mixes.old }
-    ensures region0 { region0.new ≡ region0_by v i turn fixed
+    ensures region0 { region0.new ≡ region0_by v i (is_second read) fixed
         region0.old region1.old window.now lanes.old mixes.old }
-    ensures region1 { region1.new ≡ region1_by v i turn fixed
+    ensures region1 { region1.new ≡ region1_by v i (is_second read) fixed
         region0.old region1.old window.now lanes.old mixes.old }
-    ensures lanes { lanes.new ≡ lanes_by v i turn fixed
+    ensures lanes { lanes.new ≡ lanes_by v i (is_second read) fixed
         region0.old region1.old window.now lanes.old mixes.old }
-    ensures mixes { mixes.new ≡ mixes_by v i turn fixed
+    ensures mixes { mixes.new ≡ mixes_by v i (is_second read) fixed
         region0.old region1.old window.now lanes.old mixes.old }
-    ensures long { LongAs (lane_length (length lanes.old)) (answer_to fixed turn.second i v
+    ensures long { LongAs (lane_length (length lanes.old)) (answer_to fixed (is_second read) i v
         region0.old region1.old window.now lanes.old) }
 {
-    let done = if turn.second {
-        serve_in(v, i, fixed, region1, region0, window, lanes, mixes)
-    } else {
-        serve_in(v, i, fixed, region0, region1, window, lanes, mixes)
-    };
-    hand_on(turn, i, done)
+    match read {
+        Region::Zero => serve_in(v, i, fixed, region0, region1, window, lanes, mixes),
+        Region::One => serve_in(v, i, fixed, region1, region0, window, lanes, mixes),
+    }
+}
+
+// Takes voice i's turn: its frame is served or refused in lent memory.
+pub fn take_turn(
+    v: &mut Voice,
+    i: usize,
+    read: Region,
+    fixed: Fixed,
+    region0: &mut [u8],
+    region1: &mut [u8],
+    window: &[u8],
+    lanes: &mut [i16],
+    mixes: &mut [i32; MIXES],
+) -> Result<(), Refusal>
+    requires i_bound { i < VOICES }
+    requires well_formed { WellFormed (lane_length (length lanes.old)) v.old }
+    requires fitting { Fitting fixed (length region0.old) (length region1.old) (length window.now) (length lanes.old) MIXES }
+    ensures number { code result ≡ number_of (answer_to fixed (is_second read) i v.old
+        region0.old region1.old window.now lanes.old) }
+    ensures record { v.new ≡ record_by v.old i (is_second read) fixed
+        region0.old region1.old window.now lanes.old mixes.old }
+    ensures region0 { region0.new ≡ region0_by v.old i (is_second read) fixed
+        region0.old region1.old window.now lanes.old mixes.old }
+    ensures region1 { region1.new ≡ region1_by v.old i (is_second read) fixed
+        region0.old region1.old window.now lanes.old mixes.old }
+    ensures lanes { lanes.new ≡ lanes_by v.old i (is_second read) fixed
+        region0.old region1.old window.now lanes.old mixes.old }
+    ensures mixes { mixes.new ≡ mixes_by v.old i (is_second read) fixed
+        region0.old region1.old window.now lanes.old mixes.old }
+    ensures long { LongAs (lane_length (length lanes.old)) (answer_to fixed (is_second read) i v.old
+        region0.old region1.old window.now lanes.old) }
+{
+    *v = serve_by(*v, i, read, fixed, region0, region1, window, lanes, mixes)?;
+    Ok(())
 }

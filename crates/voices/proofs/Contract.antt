@@ -1,17 +1,23 @@
 -- The call's contract on each of its three ways: refused by its lengths, refused for a record, and served, where the loop's order leaves
 -- what every order leaves. Assumes nothing.
 use mathlib.Core.Path.{◌≡◌, refl, sym, ap, ◌∙◌, subst}
-use mathlib.Core.Bool.{Bool, true, false, cond}
+use mathlib.Core.Bool.{Bool, cond}
 use mathlib.Core.List.Permᴰ
 use mathlib.Core.List.{List, []}
 use Prim.Native.Nat.{ℕ, zero, suc, ◌<◌}
 use native.Mathlib.Omega.{arith}
 use lib.IntN.{ℤ}
 use lib.ListN.{length}
+use Rattle.std.specs.Prelude.{Result, Ok, Err}
+use Rattle.arrayvec.specs.ArrayVec.{ArrayVec}
+use Rattle.refusals.specs.declared.Refusal.{Refusal as Reason}
+use Rattle.refusals.specs.Numbers.{number, number_of}
+use Rattle.refusals.proofs.Numbers.{positive}
 use Rattle.lists.specs.Some.{some}
+use Rattle.lists.proofs.Bools.{passed}
 use Rattle.voice.specs.Malformed.{malformed}
 use Rattle.voice.specs.declared.record.Voice.{Voice}
-use Rattle.stems.specs.Call.{second_read, refusals_in, lengths, or_else, whole_number, called}
+use Rattle.stems.specs.Call.{second_read, lengths, or_else, whole_number, called}
 use Rattle.stems.specs.Call.{all_voices}
 use Rattle.stems.specs.Memory.{Memory, Lent, lane_length}
 use Rattle.stems.specs.Inner.{Long}
@@ -20,13 +26,12 @@ use Rattle.stems.specs.declared.Fixed.{Fixed}
 use Rattle.stems.proofs.Orders.{order}
 use Rattle.stems.proofs.Turns.{all_waiting, turns_long}
 use Rattle.stems.proofs.Whole.{every_order_long, refusals_order}
-use Rattle.calls.specs.Refused.{listed, returned}
-use Rattle.calls.specs.Begin.{Fitting, beginning, lengths_code}
+use Rattle.calls.specs.Refused.{refusals_of, given}
+use Rattle.calls.specs.Begin.{second_of, lengths_code}
 use Rattle.calls.specs.Lent.{lent}
-use Rattle.calls.specs.declared.refused.Returned.{Returned}
-use Rattle.calls.specs.declared.begin.Turn.{Turn}
+use Rattle.calls.specs.declared.refused.RefusedVoice.{RefusedVoice}
 use Rattle.turns.specs.Turns.{State, LongAt}
-use Rattle.turns.proofs.Begun.{first_not_0, some_number, each_formed, room, all_voices_lem, still_fitting}
+use Rattle.turns.proofs.Begun.{first_not_0, each_formed, room, all_voices_lem}
 use Rattle.turns.proofs.Turns.{memory_of}
 use Rattle.voices.specs.Inner.{AllFormed}
 use Rattle.voices.specs.Tick.{left, RefusedBy, Ensured}
@@ -52,46 +57,47 @@ module _ (fx : Fixed) (r0 r1 w : List ℕ) (ys : List Voice) (lanes mixes : List
   abbrev bad : Bool
   bad = some (malformed (lane_length (length lanes))) ys
 
+  -- 7, where a record is malformed
+  abbrev seven : ℕ
+  seven = cond bad 7 0
+
   -- what is ensured
-  abbrev pub Leaves : Returned → List Voice → List ℕ → List ℕ → List ℤ → List ℤ → Type 0
+  abbrev pub Leaves : Result (ArrayVec RefusedVoice) Reason → List Voice → List ℕ → List ℕ → List ℤ → List ℤ → Type 0
   Leaves r zs s0 s1 ls ms = Ensured fx x r (lent s0 s1 w zs ls ms)
 
-  number_is : whole_number fx x ≡ or_else code (cond bad 7 0)
+  number_is : whole_number fx x ≡ or_else code seven
   unfolding whole_number lengths
   number_is = refl
 
   -- ---- refused as a whole
 
-  refused_with : (n : ℕ) → whole_number fx x ≡ n → (n ≡ 0 → ⊥) → (r : Returned) → r ≡ returned n (listed [])
+  refused_with : (e : Reason) → number e ≡ whole_number fx x → (r : Result (ArrayVec RefusedVoice) Reason) → r ≡ Err e
       → Leaves r ys r0 r1 lanes mixes
-  refused_with n is not0 r e =
-      let same : x ≡ left fx x = sym (stays (whole_number fx x) fx x (λ z. not0 (sym is ∙ z))) in (
-        ap (λ (a : Returned). a.number) e ∙ sym is,
+  refused_with e is r at =
+      let not0 : whole_number fx x ≡ 0 → ⊥ = λ z. omega (arith, positive e, is, z) in
+      let same : x ≡ left fx x = sym (stays (whole_number fx x) fx x not0) in (
+        ap number_of at ∙ is,
         ap (λ (y : Lent). y.memory.records) same,
         ap (λ (y : Lent). y.memory.region0) same,
         ap (λ (y : Lent). y.memory.region1) same,
         ap (λ (y : Lent). y.memory.lanes) same,
         ap (λ (y : Lent). y.mixes) same,
         record {
-          list = [];
-          is = ap (λ (a : Returned). a.refused) e;
-          holds = record {
-            order = all_voices;
-            each_once = Permᴰ.refl all_voices;
-            is = sym (none_listed (whole_number fx x) fx x (λ z. not0 (sym is ∙ z)));
-          };
+          order = all_voices;
+          each_once = Permᴰ.refl all_voices;
+          is = ap given at ∙ sym (none_listed (whole_number fx x) fx x not0);
         },
       )
 
-  pub refused_call : (r : Returned) (k : ℕ) → k ≡ code → (k ≡ 0 → ⊥) → r ≡ returned k (listed []) → Leaves r ys r0 r1 lanes mixes
-  refused_call r k is not0 e =
-      refused_with k (number_is ∙ first_not_0 code (cond bad 7 0) (λ z. not0 (is ∙ z)) ∙ sym is) not0 r e
+  pub refused_call : (e : Reason) → number e ≡ code → (r : Result (ArrayVec RefusedVoice) Reason) → r ≡ Err e
+      → Leaves r ys r0 r1 lanes mixes
+  refused_call e is =
+      refused_with e
+      (is ∙ sym (number_is ∙ first_not_0 code seven (λ z. omega (arith, positive e, is, z))))
 
-  pub malformed_call : (r : Returned) → code ≡ 0 → bad ≡ true → r ≡ returned 7 (listed []) → Leaves r ys r0 r1 lanes mixes
-  malformed_call r zero_is is e =
-      refused_with 7
-      (number_is ∙ ap (λ (n : ℕ). or_else n (cond bad 7 0)) zero_is ∙ ap (λ (b : Bool). or_else 0 (cond b 7 0)) is)
-      (some_number 7 tt) r e
+  pub malformed_call : (e : Reason) → code ≡ 0 → number e ≡ seven → (r : Result (ArrayVec RefusedVoice) Reason) → r ≡ Err e
+      → Leaves r ys r0 r1 lanes mixes
+  malformed_call e zero_is is = refused_with e (is ∙ sym (number_is ∙ ap (λ (n : ℕ). or_else n seven) zero_is))
 
   -- ---- served
 
@@ -99,16 +105,12 @@ module _ (fx : Fixed) (r0 r1 w : List ℕ) (ys : List Voice) (lanes mixes : List
     abbrev all_voices_lent : length ys ≡ 24
     all_voices_lent = all_voices_lem fx r0 r1 w ys lanes mixes zero_is
 
-    pub goes_on : bad ≡ false → (fresh : List ℤ) → length fresh ≡ length mixes
-        → (length ys ≡ 24) × ((beginning fx r0 r1).refused.count ≡ 0) × AllFormed (lane_length (length lanes)) ys
-        × Fitting fx (length r0) (length r1) (length w) (length lanes) (length fresh)
-    unfolding beginning listed
-    goes_on good fresh long =
-        (all_voices_lent, refl, each_formed ys (length lanes) good, still_fitting fx r0 r1 w ys lanes mixes zero_is fresh long)
+    pub goes_on : seven ≡ 0 → AllFormed (lane_length (length lanes)) ys
+    goes_on good = each_formed ys (length lanes) (passed bad 6 0 good).0
 
-    module _ (good : bad ≡ false) (long : (j : ℕ) → j < length ys → LongAt fx w j (st fx w ys r0 r1 lanes j)) where
+    module _ (good : seven ≡ 0) (long : (j : ℕ) → j < length ys → LongAt fx w (second_of fx r0 r1) j (st fx w ys r0 r1 lanes j)) where
       abbrev second : Bool
-      second = second_read fx.layout x.memory
+      second = second_of fx r0 r1
 
       abbrev last : State
       last = st fx w ys r0 r1 lanes (length ys)
@@ -122,50 +124,46 @@ module _ (fx : Fixed) (r0 r1 w : List ℕ) (ys : List Voice) (lanes mixes : List
           o.distinct (all_waiting fx second all_voices x.memory) v h (omega (arith, o.one v h))
 
       number_0 : whole_number fx x ≡ 0
-      number_0 = number_is ∙ ap (λ (n : ℕ). or_else n (cond bad 7 0)) zero_is ∙ ap (λ (b : Bool). or_else 0 (cond b 7 0)) good
+      number_0 = number_is ∙ ap (λ (n : ℕ). or_else n seven) zero_is ∙ good
 
       left_is : (called 0 fx all_voices x).left ≡ left fx x
-      unfolding lengths
+      unfolding lengths second_of second_read
       left_is =
           every_order_long fx x zero_is all_long all_voices (Permᴰ.refl all_voices) ∙ ap (λ (n : ℕ). leaves n fx x) (sym number_0)
 
       memory_is : memory_of fx w last ≡ (left fx x).memory
-      unfolding called
+      unfolding called second_of second_read
       memory_is =
           ap (λ (n : ℕ). memory_of fx w (st fx w ys r0 r1 lanes n)) all_voices_lent
           ∙ (after fx w ys r0 r1 lanes 24 (omega arith)).memory ∙ ap (λ (y : Lent). y.memory) left_is
 
       mixes_are : last.mixes ≡ (left fx x).mixes
-      unfolding called
+      unfolding called second_of second_read
       mixes_are =
           ap (λ (n : ℕ). (st fx w ys r0 r1 lanes n).mixes) all_voices_lent
           ∙ (after fx w ys r0 r1 lanes 24 (omega arith)).mixes ∙ ap (λ (y : Lent). y.mixes) left_is
 
-      refused_are : RefusedBy fx x last.turn.refused
-      unfolding refusals lengths
+      refused_are : RefusedBy fx x last.refused
+      unfolding refusals lengths second_of second_read
       refused_are = record {
-        list = refusals_in fx second all_voices x.memory;
+        order = all_voices;
+        each_once = Permᴰ.refl all_voices;
         is =
-            ap (λ (n : ℕ). (st fx w ys r0 r1 lanes n).turn.refused) all_voices_lent
-            ∙ ap (λ (t : Turn). t.refused) (after fx w ys r0 r1 lanes 24 (omega arith)).turn;
-        holds = record {
-          order = all_voices;
-          each_once = Permᴰ.refl all_voices;
-          is =
-              refusals_order fx x zero_is all_long all_voices (Permᴰ.refl all_voices)
-              ∙ ap (λ (n : ℕ). refusals n fx x all_voices) (sym number_0);
-        };
+            ap (λ (n : ℕ). (st fx w ys r0 r1 lanes n).refused) all_voices_lent
+            ∙ (after fx w ys r0 r1 lanes 24 (omega arith)).refused
+            ∙ refusals_order fx x zero_is all_long all_voices (Permᴰ.refl all_voices)
+            ∙ ap (λ (n : ℕ). refusals n fx x all_voices) (sym number_0);
       }
 
-      pub served_call : (t : Turn) (zs : List Voice) (s0 s1 : List ℕ) (ls ms : List ℤ) → t ≡ last.turn → zs ≡ last.voices
-          → s0 ≡ last.region0 → s1 ≡ last.region1 → ls ≡ last.lanes → ms ≡ last.mixes
-          → (r : Returned) → r ≡ returned 0 t.refused → Leaves r zs s0 s1 ls ms
-      served_call t zs s0 s1 ls ms et ez e0 e1 el em r e = (
-        ap (λ (a : Returned). a.number) e ∙ sym number_0,
+      pub served_call : (refused : ArrayVec RefusedVoice) (zs : List Voice) (s0 s1 : List ℕ) (ls ms : List ℤ)
+          → refusals_of refused.items ≡ last.refused → zs ≡ last.voices → s0 ≡ last.region0 → s1 ≡ last.region1 → ls ≡ last.lanes
+          → ms ≡ last.mixes → Leaves (Ok refused) zs s0 s1 ls ms
+      served_call refused zs s0 s1 ls ms er ez e0 e1 el em = (
+        sym number_0,
         ez ∙ ap (λ (y : Memory). y.records) memory_is,
         e0 ∙ ap (λ (y : Memory). y.region0) memory_is,
         e1 ∙ ap (λ (y : Memory). y.region1) memory_is,
         el ∙ ap (λ (y : Memory). y.lanes) memory_is,
         em ∙ mixes_are,
-        subst (RefusedBy fx x) (sym (ap (λ (a : Returned). a.refused) e ∙ ap (λ (u : Turn). u.refused) et)) refused_are,
+        subst (RefusedBy fx x) (sym er) refused_are,
       )

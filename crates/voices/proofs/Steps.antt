@@ -1,8 +1,8 @@
--- What the loop over the records knows after i of them: the places of the refused, the records not yet served, and the lengths. By what one
+-- What the loop over the records knows after i of them: the records not yet served, and the lengths. By what one
 -- turn changes. Assumes nothing.
 use mathlib.Core.Path.{◌≡◌, sym, ◌∙◌, subst}
 use mathlib.Core.List.{List}
-use Prim.Native.Nat.{ℕ, zero, suc, ◌+◌, ◌<◌, ◌≤◌}
+use Prim.Native.Nat.{ℕ, ◌+◌, ◌<◌, ◌≤◌}
 use native.Mathlib.Decide.{dec_lt}
 use native.Mathlib.Omega.{arith}
 use lib.IntN.{ℤ}
@@ -11,31 +11,11 @@ use lib.Seq.{get_or-set_other}
 use Rattle.voice.specs.Blank.{default_voice}
 use Rattle.voice.specs.Malformed.{WellFormed}
 use Rattle.voice.specs.declared.record.Voice.{Voice}
+use Rattle.numbers.specs.Sizes.{MIXES}
 use Rattle.stems.specs.Memory.{lane_length}
 use Rattle.stems.specs.declared.Fixed.{Fixed}
-use Rattle.voice_frame.specs.VoiceFrame.{number_of}
-use Rattle.calls.specs.Refused.{refused_after}
 use Rattle.calls.specs.Begin.{Fitting}
-use Rattle.voice_turn.specs.Turn.{answered, taken_by}
-use Rattle.calls.specs.declared.refused.Refused.{Refused}
-use Rattle.calls.specs.declared.begin.Turn.{Turn}
 use Rattle.voices.specs.Inner.{AllFormed}
-
--- a turn notes one voice at the most
-noted_one : (v n : ℕ) (list : Refused) → (refused_after v n list).count ≤ list.count + 1
-unfolding refused_after
-noted_one v zero list = omega arith
-noted_one v (suc n) list = omega arith
-
-pub counted :
-    (v : Voice) (i : ℕ) (t : Turn) (fx : Fixed) (region0 region1 window : List ℕ) (lanes mixes : List ℤ) → t.refused.count ≤ i
-    → (taken_by v i t fx region0 region1 window lanes mixes).turn.refused.count ≤ i + 1
-unfolding taken_by
-counted v i t fx region0 region1 window lanes mixes h = omega (
-  arith,
-  noted_one i (number_of (answered v i t fx region0 region1 window
-      lanes mixes)) t.refused,
-)
 
 -- the record at hand is as it was lent
 pub formed_now :
@@ -46,11 +26,10 @@ formed_now ys zs was lanes i l e h ok =
     (subst (WellFormed (lane_length (length was))) (sym e) (ok i h))
 
 pub fitting_now :
-    (fx : Fixed) (a a' b b' w l l' m m' : ℕ) → a' ≡ a → b' ≡ b → l' ≡ l → m' ≡ m → Fitting fx a b w l m → Fitting fx a' b' w l' m'
-fitting_now fx a a' b b' w l l' m m' ea eb el em h =
-    subst (λ (x : ℕ). Fitting fx x b' w l' m') (sym ea)
-    (subst (λ (x : ℕ). Fitting fx a x w l' m') (sym eb)
-    (subst (λ (x : ℕ). Fitting fx a b w x m') (sym el) (subst (λ (x : ℕ). Fitting fx a b w l x) (sym em) h)))
+    (fx : Fixed) (a a' b b' w l l' : ℕ) → a' ≡ a → b' ≡ b → l' ≡ l → Fitting fx a b w l MIXES → Fitting fx a' b' w l' MIXES
+fitting_now fx a a' b b' w l l' ea eb el h =
+    subst (λ (x : ℕ). Fitting fx x b' w l' MIXES) (sym ea)
+    (subst (λ (x : ℕ). Fitting fx a x w l' MIXES) (sym eb) (subst (λ (x : ℕ). Fitting fx a b w x MIXES) (sym el) h))
 
 -- the records behind the one at hand are as they were
 pub others_stay :

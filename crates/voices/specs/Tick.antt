@@ -1,13 +1,15 @@
 -- What the call for all voices gives back and leaves, whatever the order in which it takes the voices. Assumes nothing: these are
 -- definitions.
-use Rattle.std.specs.Prelude.{◌≡◌, List}
+use Rattle.std.specs.Prelude.{◌≡◌, List, Result}
+use Rattle.arrayvec.specs.ArrayVec.{ArrayVec}
+use Rattle.refusals.specs.declared.Refusal.{Refusal as Reason}
+use Rattle.refusals.specs.Numbers.{number_of}
 use Rattle.stems.specs.Call.{Refusal, whole_number}
 use Rattle.stems.specs.Memory.{Lent}
 use Rattle.stems.specs.Whole.{Listed, leaves}
 use Rattle.stems.specs.declared.Fixed.{Fixed}
-use Rattle.calls.specs.Refused.{listed}
-use Rattle.calls.specs.declared.refused.Refused.{Refused}
-use Rattle.calls.specs.declared.refused.Returned.{Returned}
+use Rattle.calls.specs.Refused.{given}
+use Rattle.calls.specs.declared.refused.RefusedVoice.{RefusedVoice}
 
 -- what the call leaves of what is lent to it: "nothing written" where its number is not 0, and else each voice's answer, put where its own
 -- lies
@@ -15,14 +17,12 @@ abbrev pub left : Fixed → Lent → Lent
 left fx x = leaves (whole_number fx x) fx x
 
 -- "refused voices come as a list of voice and number": the list is free in its order alone, which takes each voice once
-pub record RefusedBy (fx : Fixed) (x : Lent) (given : Refused) : Type 0 where
-  pub list : List Refusal
-  pub is : given ≡ listed list
-  pub holds : Listed fx x list
+abbrev pub RefusedBy : Fixed → Lent → List Refusal → Type 0
+RefusedBy = Listed
 
 -- what `tick` ensures of what it is lent, of what it gives back, and of what was lent to it as it leaves it
-abbrev pub Ensured : Fixed → Lent → Returned → Lent → Type 0
+abbrev pub Ensured : Fixed → Lent → Result (ArrayVec RefusedVoice) Reason → Lent → Type 0
 Ensured fx x r after =
-    (r.number ≡ whole_number fx x) × (after.memory.records ≡ (left fx x).memory.records)
+    (number_of r ≡ whole_number fx x) × (after.memory.records ≡ (left fx x).memory.records)
     × (after.memory.region0 ≡ (left fx x).memory.region0) × (after.memory.region1 ≡ (left fx x).memory.region1)
-    × (after.memory.lanes ≡ (left fx x).memory.lanes) × (after.mixes ≡ (left fx x).mixes) × RefusedBy fx x r.refused
+    × (after.memory.lanes ≡ (left fx x).memory.lanes) × (after.mixes ≡ (left fx x).mixes) × RefusedBy fx x (given r)

@@ -5,58 +5,62 @@
 #![tactic(auto)]
 
 ghost use Rattle.std.specs.Prelude.{◌≡◌, ℕ, ◌<◌, length};
+ghost use Rattle.numbers.specs.Sizes.{MIXES};
 ghost use Rattle.stems.specs.Memory.{VOICES, lane_length};
-ghost use Rattle.calls.specs.Begin.{Fitting};
+ghost use Rattle.calls.specs.Begin.{Fitting, second_of};
 ghost use Rattle.calls.specs.Lent.{lent};
+ghost use Rattle.calls.specs.Refused.{refusals_of};
 ghost use Rattle.turns.specs.Turns.{LongAt};
 ghost use Rattle.voices.specs.Inner.{AllFormed, ticked};
 ghost use Rattle.voices.specs.Tick.{Ensured};
 
-use calls::begin::{Turn, begin, finish};
-use calls::refusal::lengths_number;
-use calls::refused::{Returned, refuse};
+use calls::begin::begin;
+use calls::refusal::{accept_lengths, accept_records};
+use calls::refused::{Refused, VOICES, note};
+use numbers::sizes::MIXES;
+use refusals::Refusal;
 use stems::Fixed;
-use turns::{any_malformed, serve_at};
+use turns::serve_at;
 use voice::record::Voice;
 
-// Gives each voice its turn, voice 0 first.
+// Begins the call, and gives each voice its turn, voice 0 first.
 fn serve_all(
     voices: &mut [Voice],
-    start: Turn,
     fixed: Fixed,
     region0: &mut [u8],
     region1: &mut [u8],
     window: &[u8],
     lanes: &mut [i16],
-    mixes: &mut [i32],
-) -> Turn
-    requires { (length voices.old ≡ VOICES) × (start.refused.count ≡ 0) × AllFormed (lane_length (length lanes.old)) voices.old
-        × Fitting fixed (length region0.old) (length region1.old) (length window.now) (length lanes.old) (length mixes.old) }
-    ensures { (result ≡ (ticked fixed window.now (length voices.old) voices.old
-        region0.old region1.old lanes.old mixes.old start).turn)
-        × (voices.new ≡ (ticked fixed window.now (length voices.old) voices.old
-        region0.old region1.old lanes.old mixes.old start).voices)
-        × (region0.new ≡ (ticked fixed window.now (length voices.old) voices.old
-        region0.old region1.old lanes.old mixes.old start).region0)
-        × (region1.new ≡ (ticked fixed window.now (length voices.old) voices.old
-        region0.old region1.old lanes.old mixes.old start).region1)
-        × (lanes.new ≡ (ticked fixed window.now (length voices.old) voices.old
-        region0.old region1.old lanes.old mixes.old start).lanes)
-        × (mixes.new ≡ (ticked fixed window.now (length voices.old) voices.old
-        region0.old region1.old lanes.old mixes.old start).mixes)
-        × ((j : ℕ) → j < length voices.old → LongAt fixed window.now j
-        (ticked fixed window.now j voices.old
-        region0.old region1.old lanes.old mixes.old start)) }
+    mixes: &mut [i32; MIXES],
+) -> Refused
+    requires lent { length voices.old ≡ VOICES }
+    requires formed { AllFormed (lane_length (length lanes.old)) voices.old }
+    requires fitting { Fitting fixed (length region0.old) (length region1.old) (length window.now) (length lanes.old) MIXES }
+    ensures refused { refusals_of result.items ≡ (ticked fixed window.now (second_of fixed region0.old region1.old) (length voices.old)
+        voices.old region0.old region1.old lanes.old).refused }
+    ensures voices { voices.new ≡ (ticked fixed window.now (second_of fixed region0.old region1.old) (length voices.old)
+        voices.old region0.old region1.old lanes.old).voices }
+    ensures region0 { region0.new ≡ (ticked fixed window.now (second_of fixed region0.old region1.old) (length voices.old)
+        voices.old region0.old region1.old lanes.old).region0 }
+    ensures region1 { region1.new ≡ (ticked fixed window.now (second_of fixed region0.old region1.old) (length voices.old)
+        voices.old region0.old region1.old lanes.old).region1 }
+    ensures lanes { lanes.new ≡ (ticked fixed window.now (second_of fixed region0.old region1.old) (length voices.old)
+        voices.old region0.old region1.old lanes.old).lanes }
+    ensures mixes { mixes.new ≡ (ticked fixed window.now (second_of fixed region0.old region1.old) (length voices.old)
+        voices.old region0.old region1.old lanes.old).mixes }
+    ensures long { (j : ℕ) → j < length voices.old → LongAt fixed window.now (second_of fixed region0.old region1.old) j
+        (ticked fixed window.now (second_of fixed region0.old region1.old) j
+        voices.old region0.old region1.old lanes.old) }
 {
-    let mut turn = start;
-    let mut i = 0;
-    while i < voices.len() {
-        turn = serve_at(
-            voices, i, turn, fixed, region0, region1, window, lanes, mixes,
+    let read = begin(fixed, region0, region1, mixes);
+    let mut refused = Refused::new();
+    for i in 0..VOICES {
+        let outcome = serve_at(
+            voices, i, read, fixed, region0, region1, window, lanes, mixes,
         );
-        i += 1;
+        note(&mut refused, i, outcome);
     }
-    turn
+    refused
 }
 
 // Serves one frame of all voices. `fixed` is what every call of a run is handed alike.
@@ -68,13 +72,13 @@ pub fn tick(
     window: &[u8],
     lanes: &mut [i16],
     mixes: &mut [i32],
-) -> Returned
+) -> Result<Refused, Refusal>
     ensures { Ensured fixed (lent region0.old region1.old window.now
         voices.old lanes.old mixes.old)
         result (lent region0.new region1.new window.now
         voices.new lanes.new mixes.new) }
 {
-    let number = lengths_number(
+    accept_lengths(
         fixed,
         voices.len(),
         region0.len(),
@@ -82,15 +86,8 @@ pub fn tick(
         window.len(),
         lanes.len(),
         mixes.len(),
-    );
-    if number != 0 {
-        return refuse(number);
-    }
-    let bad = any_malformed(voices, lanes.len());
-    if bad {
-        return refuse(7);
-    }
-    let start = begin(fixed, region0, region1, mixes);
-    let turn = serve_all(voices, start, fixed, region0, region1, window, lanes, mixes);
-    finish(turn)
+    )?;
+    accept_records(voices, lanes.len())?;
+    let mixes = mixes.as_mut_array::<MIXES>().unwrap();
+    Ok(serve_all(voices, fixed, region0, region1, window, lanes, mixes))
 }

@@ -1,27 +1,23 @@
 -- `adpcm::decode_all` meets its contract: a turn takes one frame off the front of what is left to decode. Assumes nothing.
-use mathlib.Core.Path.{◌≡◌}
-use Prim.Native.Nat.{◌+◌, ◌-◌}
+use mathlib.Core.Path.{◌≡◌, ap, ◌∙◌}
+use mathlib.Core.List.{List, []}
+use Prim.Native.Nat.{ℕ, min, ◌-◌, ◌*◌, ◌<◌}
 use native.Mathlib.Omega.{arith}
-use lib.ListN.{length, take, drop}
-use Rattle.lists.proofs.Splice.{lent_is, lent_long}
-use Rattle.adpcm.proofs.Frames.{turn_called, done_length}
+use lib.ListN.{length, take, drop, get_or, length-take, length-drop}
+use Rattle.adpcm.proofs.Frames.{turn_called, chunk_at}
 use Rattle.adpcm.proofs.decode_all.Goals as goal
 
-pub loop-done-preserved : goal.loop-done-preserved
-loop-done-preserved c =
-    let n = c.at_most_a_frame in
-    let f = c.decode_frame-last in
-    let b = c.loop-done.at in
-    let i = c.loop-done.done in
-    let k : i + n.result - i ≡ n.result = omega arith in
-    let d = turn_called c.args.coefficients.now c.args.h c.args.«data».now c.args.count c.args.samples.now
-    c.loop-done.samples c.loop-done.last b i c.loop-done.invariant.1 c.loop-done-test.true
-    (take (b + 8 - b) (drop b c.args.«data».now)) (lent_is b 8 c.args.«data».now)
-    n.result n.ensures
-    (length (take (i + n.result - i) (drop i c.loop-done.samples))) (i + n.result - i)
-    (lent_long i n.result c.loop-done.samples (omega (arith, c.loop-done.invariant.0, n.ensures, c.requires.count_in_bounds))) k f.new.samples
-    f.ensures.samples f.result f.ensures.history in (
-      done_length c.args.coefficients.now c.args.h c.args.«data».now c.args.count c.args.samples.now _ _ _ _ d
-          c.requires.count_in_bounds,
-      d,
-    )
+pub loop-i-preserved : goal.loop-i-preserved
+loop-i-preserved c =
+    let l = c.loop-i in
+    let i = l.i in
+    let bytes = c.args.«data».now in
+    let frames = c.as_chunks.result.0.now in
+    let there : i * 14 < c.args.count = omega arith in
+    let part : c.min-end.result - i * 14 ≡ min 14 (c.args.count - i * 14) = omega arith in
+    let long : length (take (c.min-end.result - i * 14) (drop (i * 14) l.samples)) ≡ min 14 (c.args.count - i * 14) =
+    simp (length-take, length-drop) (omega (arith, part, l.auto.samples, c.requires.count_in_bounds)) in
+    turn_called c.args.coefficients.now c.args.history.now bytes c.args.count c.args.samples.now l.samples l.history i l.invariant there
+    (get_or frames i [])
+    (ap (λ (fs : List (List ℕ)). get_or fs i []) c.as_chunks.ensures.front ∙ chunk_at 8 _ i bytes [] (omega arith)) _ _ long part
+    c.decode_frame.new.samples c.decode_frame.ensures.samples c.decode_frame.new.history c.decode_frame.ensures.history

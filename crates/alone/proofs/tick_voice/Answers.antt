@@ -1,74 +1,49 @@
 -- `alone::tick_voice` meets its contract on each of its three ways: refused by its lengths, refused for a record or for its voice's number,
 -- and served. Assumes nothing.
-use Rattle.std.proofs.Common.{◌≡◌, ℕ, ◌≤◌, Bool, cond, ltb, sym, ap, ◌∙◌, subst}
-use Rattle.stems.specs.Call.{or_else}
-use Rattle.calls.specs.declared.begin.Turn.{Turn}
-use Rattle.turns.specs.Turns.{State, serve_one}
-use Rattle.turns.proofs.Begun.{begins}
-use Rattle.alone.proofs.Contract.{refused_call, late_call, goes_on, served_call}
+use Rattle.std.proofs.Common.{Err, sym, ap, ◌∙◌}
+use Rattle.std.proofs.lemmas.Result.{err_from_is_err_and}
+use Rattle.turns.proofs.Begun.{room, fitting}
+use Rattle.alone.proofs.Contract.{refused_call, late_call, a_voice, lent_too, formed, served_call}
 use Rattle.alone.proofs.tick_voice.Goals as goal
 
--- the later number, once it is known whether a record is malformed
-late_is : (late v : ℕ) (bad known : Bool) → bad ≡ known → late ≡ or_else (cond bad 7 0) (cond (ltb 23 v) 10 0)
-    → late ≡ or_else (cond known 7 0) (cond (ltb 23 v) 10 0)
-late_is late v bad known e h = h ∙ ap (λ (b : Bool). or_else (cond b 7 0) (cond (ltb 23 v) 10 0)) e
-
-pub returns-then-number-ne0 : goal.returns-then-number-ne0
-returns-then-number-ne0 c =
+pub returns-in_err-accept_lengths : goal.returns-in_err-accept_lengths
+returns-in_err-accept_lengths c =
     let a = c.args in
-    refused_call a.fixed a.voice a.region0.now a.region1.now a.window.now a.voices.now a.lanes.now a.mixes.now c.refuse.result
-    c.lengths_number-number.result c.lengths_number-number.ensures c.if-number-ne0.true c.refuse.ensures
+    let p = err_from_is_err_and c.from_residual.result c.from_residual.ensures.1 in
+    refused_call a.fixed a.voice a.region0.now a.region1.now a.window.now a.voices.now a.lanes.now a.mixes.now _
+    c.in_err-accept_lengths.ensures c.from_residual.result (p.1 ∙ ap Err p.2)
 
-pub returns-then-late-ne0 : goal.returns-then-late-ne0
-returns-then-late-ne0 c =
+pub returns-in_err-accept_alone : goal.returns-in_err-accept_alone
+returns-in_err-accept_alone c =
     let a = c.args in
-    late_call a.fixed a.voice a.region0.now a.region1.now a.window.now a.voices.now a.lanes.now a.mixes.now
-    c.refuse-then-late-ne0.result c.alone_number-late.result (sym c.lengths_number-number.ensures ∙ c.if-number-ne0.false)
-    (late_is _ _ _ _ c.any_malformed-bad.ensures c.alone_number-late.ensures) c.if-late-ne0.true c.refuse-then-late-ne0.ensures
+    let r = c.from_residual-in_err-accept_alone in
+    let p = err_from_is_err_and r.result r.ensures.1 in
+    late_call a.fixed a.voice a.region0.now a.region1.now a.window.now a.voices.now a.lanes.now a.mixes.now _
+    (sym c.in_ok-accept_lengths.ensures) c.in_err-accept_alone.ensures r.result (p.1 ∙ ap Err p.2)
 
-pub begin-start-requires : goal.begin-start-requires
-begin-start-requires c =
+pub unwrap-mixes-requires : goal.unwrap-mixes-requires
+unwrap-mixes-requires c =
     let a = c.args in
-    begins a.fixed a.region0.now a.region1.now a.window.now a.voices.now a.lanes.now a.mixes.now
-    (sym c.lengths_number-number.ensures ∙ c.if-number-ne0.false)
+    c.as_mut_array.ensures.variant.1
+    (room a.fixed a.region0.now a.region1.now a.window.now a.voices.now a.lanes.now a.mixes.now (sym c.in_ok-accept_lengths.ensures)).1
 
-pub serve_at-turn-requires : goal.serve_at-turn-requires
-serve_at-turn-requires c =
+pub serve_alone-requires : goal.serve_alone-requires
+serve_alone-requires c =
     let a = c.args in
-    let b = c.begin-start in
-    let g = goes_on a.fixed a.voice a.region0.now a.region1.now a.window.now a.voices.now a.lanes.now a.mixes.now
-    (sym c.lengths_number-number.ensures ∙ c.if-number-ne0.false)
-    (sym (late_is _ _ _ _ c.any_malformed-bad.ensures c.alone_number-late.ensures) ∙ c.if-late-ne0.false)
-    b.new.mixes b.auto.mixes in
-    (g.0, g.1, subst (λ (t : Turn). t.refused.count ≤ a.voice) (sym b.ensures.turn) g.2, g.3, g.4)
+    let code = sym c.in_ok-accept_lengths.ensures in
+    let late = sym c.in_ok-accept_alone.ensures in record {
+      lent = lent_too a.fixed a.voice a.region0.now a.region1.now a.window.now a.voices.now a.lanes.now a.mixes.now code late;
+      a_voice = a_voice a.fixed a.voice a.region0.now a.region1.now a.window.now a.voices.now a.lanes.now a.mixes.now code late;
+      well_formed = formed a.fixed a.voice a.region0.now a.region1.now a.window.now a.voices.now a.lanes.now a.mixes.now code late;
+      fitting = fitting a.fixed a.region0.now a.region1.now a.window.now a.voices.now a.lanes.now a.mixes.now code;
+    }
 
 pub returns : goal.returns
 returns c =
     let a = c.args in
-    let b = c.begin-start in
-    let s = c.serve_at-turn in
+    let s = c.serve_alone in
     let e = s.ensures in
-    -- the turn began with no mix value and no voice refused
-    let begun : serve_one a.fixed a.window.now a.voice (record {
-      voices = a.voices.now;
-      region0 = a.region0.now;
-      region1 = a.region1.now;
-      lanes = a.lanes.now;
-      mixes = b.new.mixes;
-      turn = b.result;
-    }) ≡ _ =
-    λ j. serve_one a.fixed a.window.now a.voice (record {
-      voices = a.voices.now;
-      region0 = a.region0.now;
-      region1 = a.region1.now;
-      lanes = a.lanes.now;
-      mixes = b.ensures.mixes j;
-      turn = b.ensures.turn j;
-    }) in
     served_call a.fixed a.voice a.region0.now a.region1.now a.window.now a.voices.now a.lanes.now a.mixes.now
-    (sym c.lengths_number-number.ensures ∙ c.if-number-ne0.false)
-    (sym (late_is _ _ _ _ c.any_malformed-bad.ensures c.alone_number-late.ensures) ∙ c.if-late-ne0.false)
+    (sym c.in_ok-accept_lengths.ensures) (sym c.in_ok-accept_alone.ensures)
     s.result s.new.voices s.new.region0 s.new.region1 s.new.lanes s.new.mixes
-    (e.0 ∙ ap (λ (x : State). x.turn) begun) (e.1 ∙ ap (λ (x : State). x.voices) begun) (e.2 ∙ ap (λ (x : State). x.region0) begun)
-    (e.3 ∙ ap (λ (x : State). x.region1) begun) (e.4 ∙ ap (λ (x : State). x.lanes) begun) (e.5 ∙ ap (λ (x : State). x.mixes) begun)
-    c.finish.result c.finish.ensures
+    e.refused e.voices e.region0 e.region1 e.lanes e.mixes

@@ -11,17 +11,17 @@ use borrow.Author.Rules.{rules}
 use Rattle.downmix.proofs.Silent.{silent}
 use Rattle.downmix.proofs.downmix.Goals as goal
 
-volumes : (c : goal.After-ranged32) → length c.args.state.volume ≡ 3
+volumes : (c : goal.After-ranged-then-volume) → length c.args.state.volume ≡ 3
 volumes c = search rules
 
 -- the volume that the code reads
-loud : (c : goal.After-ranged32) → get_or c.args.state.volume c.args.k nan ≡ volume_of c.args.state c.args.k
-loud c = get_d_any c.args.state.volume c.args.k nan +0 (subst (λ (n : ℕ). c.args.k < n) (sym (volumes c)) c.requires.k_bound)
+loud : (c : goal.After-ranged-then-volume) → get_or c.args.state.volume c.args.k nan ≡ volume_of c.args.state c.args.k
+loud c = get_d_any c.args.state.volume c.args.k nan +0 (subst (λ (n : ℕ). c.args.k < n) (sym (volumes c)) c.requires)
 
 pub returns-then-volume : goal.returns-then-volume
 returns-then-volume c =
     let a = c.args in
     let zero = ap (eq (get_or a.state.volume a.k nan)) (sym zero_32) ∙ c.if-volume.true in
     let quiet = sym (ap (λ (v : Float). eq v +0) (loud c)) ∙ zero in
-    silent a.state.output (volume_of a.state a.k) a.mix.now a.frame.now quiet c.requires.frame_len c.ranged16.ensures
-    c.ranged32.ensures
+    silent a.state.output (volume_of a.state a.k) a.mix.now a.frame.now quiet c.told-frame c.ranged.ensures
+    c.ranged-then-volume.ensures

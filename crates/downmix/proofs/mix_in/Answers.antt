@@ -57,24 +57,21 @@ pub loop-i-preserved : goal.loop-i-preserved
 loop-i-preserved c =
     let l = c.loop-i in
     let k = l.i * 2 in
-    let one = c.added-left in
-    let two = c.added-right in
-    let s = c.parts_of-s in
+    let one = c.added in
+    let two = c.added-in-loop-i in
+    let s = c.parts_of-part in
     let x = read one.result in
     let y = read two.result in
     let left : SFits w16 s.result.left = search rules in
     let right : SFits w16 s.result.right = search rules in
     let was : SFits w16 (get_or l.frame k (pos 0)) = search rules in
     let next : SFits w16 (get_or (set l.frame k x) (k + 1) (pos 0)) = search rules in
-    let mixed = turn c.args.output c.args.volume c.args.mix.now c.args.frame.now c.requires.frame_len in (
-      omega arith,
-      mixed l.frame l.i x y c.loop-i-test.true l.invariant.1
-          (result_read w16 one.result one.type_inv ∙ one.ensures ∙ (λ j. added (to_z-of_z was j) ((to_z-of_z left ∙ s.ensures.left) j)))
-          (result_read w16 two.result two.type_inv ∙ two.ensures ∙ (λ j. added (to_z-of_z next j) ((to_z-of_z right ∙ s.ensures.right) j))),
-    )
+    turn c.args.output c.args.volume c.args.mix.now c.args.frame.now c.told-frame l.frame l.i x y c.loop-i-test.true l.invariant
+    (result_read w16 one.result one.type_inv ∙ one.ensures ∙ (λ j. added (to_z-of_z was j) ((to_z-of_z left ∙ s.ensures.left) j)))
+    (result_read w16 two.result two.type_inv ∙ two.ensures ∙ (λ j. added (to_z-of_z next j) ((to_z-of_z right ∙ s.ensures.right) j)))
 
 pub returns : goal.returns
 returns c =
     let l = c.loop-i in
-    let long = goal_long c.args.output c.args.volume c.args.mix.now c.args.frame.now c.requires.frame_len in
-    filling_all _ c.args.frame.now l.frame (l.i * 2) long (omega (arith, c.loop-i-test.false, c.requires.frame_len)) l.invariant.1
+    let long = goal_long c.args.output c.args.volume c.args.mix.now c.args.frame.now c.told-frame in
+    filling_all _ c.args.frame.now l.frame (l.i * 2) long (omega (arith, c.loop-i-test.false, c.told-frame)) l.invariant

@@ -13,7 +13,7 @@ listed_alike : (buffer input : List ℕ) (got : ℕ) → Bytes buffer → take g
 listed_alike buffer input got b e = ap listed e ∙ read_listed input (subst Bytes e (bytes_take got buffer b))
 
 bytes : (c : goal.After-listing) → Bytes c.args.buffer.now
-bytes c i = omega (arith, c.shared_slice_known-1.given i)
+bytes c i = omega (arith, c.type_inv.buffer i)
 
 -- what the bytes read are listed as, any input of which they were read is
 alike : (c : goal.After-listing) (input : List ℕ) → let a = c.args in

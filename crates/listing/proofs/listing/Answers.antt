@@ -1,19 +1,24 @@
 -- `listing::listing` meets its contract: what was put from the first place on is the listing, and the rest is as it was. Assumes nothing.
-use mathlib.Core.Path.{◌≡◌, sym, ap, ◌∙◌}
+use mathlib.Core.Path.{◌≡◌, sym, ap, ◌∙◌, subst}
 use mathlib.Core.Bool.{false}
 use mathlib.Core.List.{List, ◌++◌}
 use Prim.Native.Nat.{ℕ, ◌+◌, ◌≤◌, ◌<◌}
 use native.Mathlib.Omega.{arith}
 use lib.ListN
-use lib.ListN.{length, drop, length-append}
+use lib.IntN.{pos}
+use lib.ListN.{length, take, drop, replicate, length-append}
+use lib.Seq.{length-take-le}
+use Rattle.std.proofs.lemmas.List.{length-replicate}
 use borrow.Author.Tests.{eq-eqb, ne_eqb}
 use Rattle.lists.proofs.Bools.{cond_yes, cond_no}
 use Rattle.lists.proofs.Splice.{splice_is}
 use Rattle.listing.specs.Text.{decimal}
-use Rattle.listing.specs.Sizes.{header, frame_bytes, output_room}
-use Rattle.listing.specs.Inner.{Put}
+use Rattle.listing.specs.Sizes.{header, frame_bytes, most_samples, output_room}
+use Rattle.listing.specs.Inner.{Put, Whole}
 use Rattle.listing.specs.Listing.{count_in, complete, tables_of, only_nine, listed}
 use borrow.Author.Rules.{rules}
+use Rattle.std.specs.Array.{IsFirstChunk}
+use Rattle.listing.proofs.Header.{same_count}
 use Rattle.listing.proofs.listing.Goals as goal
 
 -- what a listing promises of its result and of its output
@@ -67,21 +72,43 @@ put_complete input old new r count e h p l k =
     (sym (cond_yes (tables_of input) only_nine (eq-eqb _ _ (h ∙ ap (λ (n : ℕ). header + frame_bytes n) e))))
     p l k
 
-pub returns-then-input-lt-HEADER : goal.returns-then-input-lt-HEADER
-returns-then-input-lt-HEADER c =
+-- the count is that of the whole input
+counted : (input first : List ℕ) → IsFirstChunk input first 38 → count_in first ≡ count_in input
+counted input first cut = ap count_in cut.same ∙ same_count input
+
+pub returns-in_default : goal.returns-in_default
+returns-in_default c =
     let a = c.args in
     let room : length a.output.now ≡ output_room = search rules in
-    nine_listed a.input.now a.output.now c.put_nine.new.output c.put_nine.result (ends_early a.input.now c.if-input-lt-HEADER.true)
+    nine_listed a.input.now a.output.now c.put_nine.new.output c.put_nine.result (ends_early a.input.now c.in_default.ensures.cases)
     c.put_nine.ensures room
 
-pub returns-then-input-count : goal.returns-then-input-count
-returns-then-input-count c =
+pub returns-then-input-div_ceil : goal.returns-then-input-div_ceil
+returns-then-input-div_ceil c =
     let n = c.count-count in
     let a = c.args in
     let room : length a.output.now ≡ output_room = search rules in
-    let other : length a.input.now ≡ header + frame_bytes n.result → ⊥ = λ e. omega (arith, c.if-input-count.true) in
-    nine_listed a.input.now a.output.now c.put_nine-then-input-count.new.output c.put_nine-then-input-count.result
-    (other_length a.input.now n.result n.ensures.value other) c.put_nine-then-input-count.ensures room
+    let other : length a.input.now ≡ header + frame_bytes n.result → ⊥ = λ e. omega (arith, c.if-input-div_ceil.true, c.div_ceil.ensures) in
+    nine_listed a.input.now a.output.now c.put_nine-then-input-div_ceil.new.output c.put_nine-then-input-div_ceil.result
+    (other_length a.input.now n.result (n.ensures.value ∙ counted a.input.now _ c.in-Some.ensures.cases) other)
+    c.put_nine-then-input-div_ceil.ensures room
+
+-- as many places for samples as the count says
+places : (count : ℕ) → count < 65536 → count ≡ length (take count (replicate most_samples (pos 0)))
+places count h = sym (length-take-le count (replicate most_samples (pos 0)) (omega (arith, length-replicate most_samples (pos 0))))
+
+pub slice_bounds-put_decoded-end : goal.slice_bounds-put_decoded-end
+slice_bounds-put_decoded-end c = places c.count-count.result c.count-count.ensures.upper_bound
+
+pub put_decoded-requires : goal.put_decoded-requires
+put_decoded-requires c =
+    let n = c.count-count in
+    subst (Whole c.args.input.now) (places n.result n.ensures.upper_bound)
+    (record {
+      long = omega (arith, c.if-input-div_ceil.false, c.div_ceil.ensures);
+      counted = n.ensures.value ∙ counted c.args.input.now _ c.in-Some.ensures.cases;
+      few = omega (arith, n.ensures.upper_bound);
+    })
 
 pub returns : goal.returns
 returns c =
@@ -89,5 +116,7 @@ returns c =
     let n = c.count-count in
     let a = c.args in
     let room : length a.output.now ≡ output_room = search rules in
-    put_complete a.input.now a.output.now d.new.output d.result n.result n.ensures.value c.if-input-count.false
+    put_complete a.input.now a.output.now d.new.output d.result n.result
+    (n.ensures.value ∙ counted a.input.now _ c.in-Some.ensures.cases)
+    (omega (arith, c.if-input-div_ceil.false, c.div_ceil.ensures))
     d.ensures.tables d.ensures.next room

@@ -7,5 +7,5 @@ use Rattle.little.proofs.put.Goals as goal
 pub returns : goal.returns
 returns c =
     let a = c.args in
-    let w = c.copy in
-    called_is_splice a.s.now w.new.dst a.bytes.now a.at (length a.bytes.now) c.requires w.ensures refl
+    let w = c.copy_from_slice in
+    called_is_splice a.s.now w.new.self a.bytes.now a.at (length a.bytes.now) c.requires w.ensures.after refl

@@ -1,54 +1,55 @@
 -- `voices::tick` meets its contract on each of its three ways: refused by its lengths, refused for a record, and served. Assumes nothing.
-use Rattle.std.proofs.Common.{◌≡◌, ℕ, false, length, sym, ap, ◌∙◌, subst}
-use Rattle.calls.specs.declared.begin.Turn.{Turn}
-use Rattle.turns.specs.Turns.{State, LongAt}
-use Rattle.turns.proofs.Begun.{begins}
-use Rattle.voices.specs.Inner.{ticked}
+use Rattle.std.proofs.Common.{Err, sym, ap, ◌∙◌}
+use Rattle.std.proofs.lemmas.Result.{err_from_is_err_and}
+use Rattle.turns.proofs.Begun.{room, all_voices_lem, fitting}
 use Rattle.voices.proofs.Contract.{refused_call, malformed_call, goes_on, served_call}
 use Rattle.voices.proofs.tick.Goals as goal
 
-pub returns-then-number-ne0 : goal.returns-then-number-ne0
-returns-then-number-ne0 c =
+pub returns-in_err-accept_lengths : goal.returns-in_err-accept_lengths
+returns-in_err-accept_lengths c =
     let a = c.args in
-    refused_call a.fixed a.region0.now a.region1.now a.window.now a.voices.now a.lanes.now a.mixes.now c.refuse.result
-    c.lengths_number-number.result c.lengths_number-number.ensures c.if-number-ne0.true c.refuse.ensures
+    let p = err_from_is_err_and c.from_residual.result c.from_residual.ensures.1 in
+    refused_call a.fixed a.region0.now a.region1.now a.window.now a.voices.now a.lanes.now a.mixes.now _
+    c.in_err-accept_lengths.ensures c.from_residual.result (p.1 ∙ ap Err p.2)
 
-pub returns-then-bad : goal.returns-then-bad
-returns-then-bad c =
+pub returns-in_err-accept_records : goal.returns-in_err-accept_records
+returns-in_err-accept_records c =
     let a = c.args in
-    malformed_call a.fixed a.region0.now a.region1.now a.window.now a.voices.now a.lanes.now a.mixes.now c.refuse-then-bad.result
-    (sym c.lengths_number-number.ensures ∙ c.if-number-ne0.false) (sym c.any_malformed-bad.ensures ∙ c.if-bad.true)
-    c.refuse-then-bad.ensures
+    let r = c.from_residual-in_err-accept_records in
+    let p = err_from_is_err_and r.result r.ensures.1 in
+    malformed_call a.fixed a.region0.now a.region1.now a.window.now a.voices.now a.lanes.now a.mixes.now _
+    (sym c.in_ok-accept_lengths.ensures) c.in_err-accept_records.ensures r.result (p.1 ∙ ap Err p.2)
 
-pub begin-start-requires : goal.begin-start-requires
-begin-start-requires c =
+pub unwrap-mixes-requires : goal.unwrap-mixes-requires
+unwrap-mixes-requires c =
     let a = c.args in
-    begins a.fixed a.region0.now a.region1.now a.window.now a.voices.now a.lanes.now a.mixes.now
-    (sym c.lengths_number-number.ensures ∙ c.if-number-ne0.false)
+    c.as_mut_array.ensures.variant.1
+    (room a.fixed a.region0.now a.region1.now a.window.now a.voices.now a.lanes.now a.mixes.now (sym c.in_ok-accept_lengths.ensures)).1
 
-pub serve_all-turn-requires : goal.serve_all-turn-requires
-serve_all-turn-requires c =
+pub serve_all-requires-clause-lent : goal.serve_all-requires-clause-lent
+serve_all-requires-clause-lent c =
     let a = c.args in
-    let b = c.begin-start in
-    let g = goes_on a.fixed a.region0.now a.region1.now a.window.now a.voices.now a.lanes.now a.mixes.now
-    (sym c.lengths_number-number.ensures ∙ c.if-number-ne0.false) (sym c.any_malformed-bad.ensures ∙ c.if-bad.false)
-    b.new.mixes b.auto.mixes in
-    (g.0, ap (λ (t : Turn). t.refused.count) b.ensures.turn ∙ g.1, g.2, g.3)
+    all_voices_lem a.fixed a.region0.now a.region1.now a.window.now a.voices.now a.lanes.now a.mixes.now
+    (sym c.in_ok-accept_lengths.ensures)
+
+pub serve_all-requires-clause-formed : goal.serve_all-requires-clause-formed
+serve_all-requires-clause-formed c =
+    let a = c.args in
+    goes_on a.fixed a.region0.now a.region1.now a.window.now a.voices.now a.lanes.now a.mixes.now
+    (sym c.in_ok-accept_lengths.ensures) (sym c.in_ok-accept_records.ensures)
+
+pub serve_all-requires-clause-fitting : goal.serve_all-requires-clause-fitting
+serve_all-requires-clause-fitting c =
+    let a = c.args in
+    fitting a.fixed a.region0.now a.region1.now a.window.now a.voices.now a.lanes.now a.mixes.now
+    (sym c.in_ok-accept_lengths.ensures)
 
 pub returns : goal.returns
 returns c =
     let a = c.args in
-    let b = c.begin-start in
-    let s = c.serve_all-turn in
+    let s = c.serve_all in
     let e = s.ensures in
-    -- the loop began with no mix value and no voice refused
-    let begun : (k : ℕ) → ticked a.fixed a.window.now k a.voices.now a.region0.now a.region1.now a.lanes.now b.new.mixes b.result ≡ _ =
-    λ k j. ticked a.fixed a.window.now k a.voices.now a.region0.now a.region1.now a.lanes.now (b.ensures.mixes j) (b.ensures.turn j) in
-    let last = begun (length a.voices.now) in
     served_call a.fixed a.region0.now a.region1.now a.window.now a.voices.now a.lanes.now a.mixes.now
-    (sym c.lengths_number-number.ensures ∙ c.if-number-ne0.false) (sym c.any_malformed-bad.ensures ∙ c.if-bad.false)
-    (λ j k. subst (LongAt a.fixed a.window.now j) (begun j) (e.6 j k))
+    (sym c.in_ok-accept_lengths.ensures) (sym c.in_ok-accept_records.ensures) e.long
     s.result s.new.voices s.new.region0 s.new.region1 s.new.lanes s.new.mixes
-    (e.0 ∙ ap (λ (x : State). x.turn) last) (e.1 ∙ ap (λ (x : State). x.voices) last) (e.2 ∙ ap (λ (x : State). x.region0) last)
-    (e.3 ∙ ap (λ (x : State). x.region1) last) (e.4 ∙ ap (λ (x : State). x.lanes) last) (e.5 ∙ ap (λ (x : State). x.mixes) last)
-    c.finish.result c.finish.ensures
+    e.refused e.voices e.region0 e.region1 e.lanes e.mixes

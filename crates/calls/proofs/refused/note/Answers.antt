@@ -1,11 +1,21 @@
--- `calls::refused::note` meets its contract: 0 adds nothing, and another number is stored behind the last. Assumes nothing.
-use Rattle.calls.proofs.Listed.{after_none, after_one}
+-- `calls::refused::note` meets its contract: nothing is listed of a voice that was not refused, and one that was is listed behind the
+-- others. Assumes nothing.
+use Rattle.std.proofs.Common.{ap, sym, ◌∙◌}
+use mathlib.Core.List.{map-append}
+use Rattle.refusals.specs.Numbers.{number_of}
+use Rattle.calls.specs.Refused.{refusal, refusals_of, refused_after}
+use Rattle.calls.proofs.Noted.{noted_none, noted_one}
 use Rattle.calls.proofs.refused.note.Goals as goal
 
-pub returns-then-number-eq0 : goal.returns-then-number-eq0
-returns-then-number-eq0 c = after_none c.args.voice c.args.number c.args.list c.if-number-eq0.true
-
-pub returns : goal.returns
-returns c =
+pub returns-in-Err-clause-items : goal.returns-in-Err-clause-items
+returns-in-Err-clause-items c =
     let a = c.args in
-    after_one a.voice a.number a.list c.if-number-eq0.false
+    let so_far = refusals_of a.refused.now.items in
+    ap refusals_of c.push.ensures.items ∙ map-append refusal a.refused.now.items _ ∙ noted_one a.voice c.in-Err.refusal so_far
+    ∙ ap (λ r. refused_after a.voice (number_of r) so_far) (sym c.in-Err.is)
+
+pub returns-in_default-clause-items : goal.returns-in_default-clause-items
+returns-in_default-clause-items c =
+    let a = c.args in
+    let so_far = refusals_of a.refused.now.items in
+    noted_none a.voice so_far ∙ ap (λ r. refused_after a.voice (number_of r) so_far) (sym c.in_default.is)

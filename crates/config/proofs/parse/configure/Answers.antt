@@ -1,32 +1,32 @@
 -- `config::parse::configure` meets its contract: nothing is done, the voice is refused and untouched, or it is served whole. Assumes
 -- nothing.
-use mathlib.Core.Path.{◌≡◌, sym, ap, ◌∙◌, subst}
-use mathlib.Core.Bool.{false, cond}
-use mathlib.Core.List.{List}
-use Prim.Native.Nat.{ℕ, ◌≤◌}
-use native.Mathlib.Omega.{arith}
-use lib.Dec.{eqb}
-use lib.ListN.{length}
-use borrow.Author.Rules.{rules}
+use Rattle.std.proofs.Common.{◌≡◌, ℕ, ◌≤◌, false, List, refl, sym, ap, ◌∙◌, subst, eqb, arith}
+use Rattle.std.specs.Prelude.{Err}
+use Rattle.std.proofs.lemmas.Result.{err_from_is_err_and}
 use borrow.Author.Tests.{eq-eqb, ne_eqb}
 use Rattle.lists.proofs.Bools.{cond_yes, cond_no}
+use Rattle.refusals.specs.declared.Refusal.{Refusal}
+use Rattle.refusals.specs.Numbers.{number}
+use Rattle.refusals.proofs.Numbers.{ok_exactly}
 use Rattle.voice.specs.Blank.{limit}
+use Rattle.voice.specs.declared.record.Entry.{Entry}
 use Rattle.voice.specs.declared.record.Voice.{Voice}
 use Rattle.settings.specs.Dirty.{dirty_in}
-use Rattle.entries.specs.declared.added.Added.{Added}
 use Rattle.entries.specs.Entries.{added}
-use Rattle.entries.specs.Inner.{at_most, listed_in}
-use Rattle.config.specs.Parsed.{settled, to_add, refusal, parsed, configured, cleared, bytes_after}
 use Rattle.queueing.specs.Refusal.{refusal_of}
 use Rattle.queueing.specs.Queue.{pushed_all}
-use Rattle.entries.proofs.Listed.{counted}
 use Rattle.queueing.proofs.Served.{room_for}
+use Rattle.config.specs.Parsed.{Configured, settled, to_add, refusal, parsed, configured, cleared, bytes_after}
 use Rattle.config.proofs.Room.{settled_room}
 use Rattle.config.proofs.parse.configure.Goals as goal
 
 -- a dirty word that is not 0
 dirty : (bytes : List ℕ) (word : ℕ) → word ≡ dirty_in bytes → (word ≡ 0 → ⊥) → eqb (dirty_in bytes) 0 ≡ false
 dirty bytes word is more = ne_eqb (dirty_in bytes) 0 (λ e. more (is ∙ e))
+
+-- a refusal has a number
+numbered : (r : Refusal) → number r ≡ 0 → ⊥
+numbered r e = let ok = (ok_exactly {A = ℕ} (Err r)).0 e in cc
 
 -- the record `w` that the code settles, and the entries that it lists, are those of the definitions
 module _ (bytes coefficients : List ℕ) (v w : Voice) (same_record : w ≡ settled bytes coefficients v) where
@@ -35,85 +35,96 @@ module _ (bytes coefficients : List ℕ) (v w : Voice) (same_record : w ≡ sett
       let settled_fits = settled_room bytes limit coefficients v (record { fits = fits; queue = queue }) in
       subst (λ (u : Voice). u.queued ≤ limit) (sym same_record) settled_fits.queue
 
-  module _ (a : Added) (list : listed_in a ≡ added bytes w.kinds.format w.stereo) where
-    same_entries : listed_in a ≡ to_add bytes coefficients v
+  module _ (es : List Entry) (list : es ≡ added bytes w.kinds.format w.stereo) where
+    same_entries : es ≡ to_add bytes coefficients v
     unfolding to_add
     same_entries = list ∙ (λ j. added bytes (same_record j).kinds.format (same_record j).stereo)
 
-    record_is : pushed_all (listed_in a) w ≡ parsed bytes coefficients v
+    record_is : pushed_all es w ≡ parsed bytes coefficients v
     unfolding parsed
     record_is = λ j. pushed_all (same_entries j) (same_record j)
 
-    module _ (lane n : ℕ) (is : n ≡ refusal_of w.queued (listed_in a) lane) where
-      -- the number that the code finds
+    -- the number `n` that the code finds, where the dirty word is not 0
+    module _ (lane n : ℕ) (is : n ≡ refusal_of w.queued es lane) (changed : eqb (dirty_in bytes) 0 ≡ false) where
       found : n ≡ refusal bytes coefficients v lane
       unfolding refusal
       found = is ∙ (λ j. refusal_of (same_record j).queued (same_entries j) lane)
 
-      -- the bytes, cleared where that number is 0
-      left : eqb (dirty_in bytes) 0 ≡ false → cond (eqb n 0) (cleared bytes) bytes ≡ bytes_after bytes coefficients v lane
-      unfolding bytes_after
-      left changed = ap (λ (k : ℕ). cond (eqb k 0) (cleared bytes) bytes) found ∙ sym (cond_no _ _ changed)
-
       -- a voice that is refused, and one that is served
-      refused : eqb (dirty_in bytes) 0 ≡ false → (n ≡ 0 → ⊥) → record { number = n; voice = v } ≡ configured bytes coefficients v lane
+      refused : (n ≡ 0 → ⊥) → record { number = n; voice = v } ≡ configured bytes coefficients v lane
       unfolding configured
-      refused changed some =
+      refused some =
           let other = ne_eqb (refusal bytes coefficients v lane) 0 (λ e. some (found ∙ e)) in
           sym (cond_no _ _ changed ∙ cond_no _ _ other ∙ (λ j. record { number = sym found j; voice = v }))
 
-      served : eqb (dirty_in bytes) 0 ≡ false → n ≡ 0 → (u : Voice) → u ≡ pushed_all (listed_in a) w
-          → record { number = 0; voice = u } ≡ configured bytes coefficients v lane
+      untouched : (n ≡ 0 → ⊥) → bytes ≡ bytes_after bytes coefficients v lane
+      unfolding bytes_after
+      untouched some =
+          let other = ne_eqb (refusal bytes coefficients v lane) 0 (λ e. some (found ∙ e)) in
+          sym (cond_no _ _ changed ∙ cond_no _ _ other)
+
+      served : n ≡ 0 → record { number = 0; voice = pushed_all es w } ≡ configured bytes coefficients v lane
       unfolding configured
-      served changed none u put =
-          let done = put ∙ record_is in
+      served none =
           let zero = eq-eqb (refusal bytes coefficients v lane) 0 (sym found ∙ none) in
-          (λ j. record { number = 0; voice = done j }) ∙ sym (cond_no _ _ changed ∙ cond_yes _ _ zero)
+          (λ j. record { number = 0; voice = record_is j }) ∙ sym (cond_no _ _ changed ∙ cond_yes _ _ zero)
+
+      emptied : n ≡ 0 → cleared bytes ≡ bytes_after bytes coefficients v lane
+      unfolding bytes_after
+      emptied none =
+          let zero = eq-eqb (refusal bytes coefficients v lane) 0 (sym found ∙ none) in
+          sym (cond_no _ _ changed ∙ cond_yes _ _ zero)
 
 pub returns-then-read32-eq0 : goal.returns-then-read32-eq0
 unfolding configured bytes_after
 returns-then-read32-eq0 c =
     let clean = eq-eqb _ 0 (sym c.read32.ensures ∙ c.if-read32-eq0.true) in record {
-      answer = sym (cond_yes _ _ clean);
+      number = ap (λ (d : Configured). d.number) (sym (cond_yes _ _ clean));
+      voice = ap (λ (d : Configured). d.voice) (sym (cond_yes _ _ clean));
       bytes = sym (cond_yes _ _ clean);
     }
 
 -- the bound of either record's queue is at hand: which of the two is counted is for the number to say
-pub refusal-number-requires-clause-queued_le_places : goal.refusal-number-requires-clause-queued_le_places
-refusal-number-requires-clause-queued_le_places c =
+pub accept_entries-requires : goal.accept_entries-requires
+accept_entries-requires c =
     let r = c.requires in
-    let fits = room _ c.args.coefficients.now c.args.v _ c.settle-w.ensures r.remaining_le_length r.queued_le_limit in
+    let fits = room _ c.args.coefficients.now c.args.v _ c.settle-settled.ensures r.fits r.queue in
     omega (arith, fits)
 
-pub returns-then-number-ne0 : goal.returns-then-number-ne0
-returns-then-number-ne0 c =
+pub returns-in_err-accept_entries : goal.returns-in_err-accept_entries
+returns-in_err-accept_entries c =
     let a = c.args in
     let bytes = a.bytes.now in
-    let coefficients = a.coefficients.now in
+    let cs = a.coefficients.now in
     let changed = dirty bytes _ c.read32.ensures c.if-read32-eq0.false in
-    let same = c.settle-w.ensures in
-    let list = c.to_add-entries.ensures.list in
-    let is = c.refusal-number.ensures in record {
-      answer = refused bytes coefficients a.v _ same _ list a.lane _ is changed c.if-number-ne0.true;
-      bytes = c.clear_served.ensures ∙ left bytes coefficients a.v _ same _ list a.lane _ is changed;
+    let list = c.as_slice.ensures.value ∙ c.to_add-entries.ensures in
+    let r = c.in_err-accept_entries.field-0.0 in
+    let is = c.in_err-accept_entries.ensures in
+    let p = err_from_is_err_and c.from_residual.result c.from_residual.ensures.1 in
+    let done = refused bytes cs a.v _ c.settle-settled.ensures _ list a.lane _ is changed (numbered r) in
+    rw (p.1, p.2) record {
+      number = ap (λ (d : Configured). d.number) done;
+      voice = ap (λ (d : Configured). d.voice) done;
+      bytes = untouched bytes cs a.v _ c.settle-settled.ensures _ list a.lane _ is changed (numbered r);
     }
 
-pub push_entries-parsed-requires-clause-count_bound : goal.push_entries-parsed-requires-clause-count_bound
-push_entries-parsed-requires-clause-count_bound c =
-    let entries = c.to_add-entries.result in
-    let fits = room_for c.settle-w.result.queued (listed_in entries) c.args.lane (sym c.refusal-number.ensures ∙ c.if-number-ne0.false) in
-    let long : length entries.entries ≡ at_most = search rules in
-    omega (arith, fits, counted entries long c.to_add-entries.ensures.count)
+pub push_entries-requires : goal.push_entries-requires
+push_entries-requires c =
+    let fits = room_for c.settle-settled.result.queued c.as_slice.result.now c.args.lane (sym c.in_ok-accept_entries.ensures) in
+    rw (c.as_slice-2.ensures.value, ← c.as_slice.ensures.value) fits
 
 pub returns : goal.returns
 returns c =
     let a = c.args in
     let bytes = a.bytes.now in
-    let coefficients = a.coefficients.now in
+    let cs = a.coefficients.now in
     let changed = dirty bytes _ c.read32.ensures c.if-read32-eq0.false in
-    let same = c.settle-w.ensures in
-    let list = c.to_add-entries.ensures.list in
-    let is = c.refusal-number.ensures in record {
-      answer = served bytes coefficients a.v _ same _ list a.lane _ is changed c.if-number-ne0.false _ c.push_entries-parsed.ensures;
-      bytes = c.clear_served.ensures ∙ left bytes coefficients a.v _ same _ list a.lane _ is changed;
+    let list = c.as_slice.ensures.value ∙ c.to_add-entries.ensures in
+    let is = c.in_ok-accept_entries.ensures in
+    let put = c.push_entries.ensures
+    ∙ ap (λ (es : List Entry). pushed_all es c.settle-settled.result) (c.as_slice-2.ensures.value ∙ sym c.as_slice.ensures.value) in
+    let done = served bytes cs a.v _ c.settle-settled.ensures _ list a.lane _ is changed refl in record {
+      number = ap (λ (d : Configured). d.number) done;
+      voice = put ∙ ap (λ (d : Configured). d.voice) done;
+      bytes = c.clear_served.ensures ∙ emptied bytes cs a.v _ c.settle-settled.ensures _ list a.lane _ is changed refl;
     }

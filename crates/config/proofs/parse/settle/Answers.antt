@@ -12,11 +12,10 @@ last_steps-requires c =
     let bytes = c.args.bytes.now in
     let cs = c.args.coefficients.now in
     let v = c.args.v in
-    let e = c.sound_steps-b.ensures ∙ ap (in_turn (sound_steps bytes cs)) c.play_steps-a.ensures in
-    let here : Room v.queued v = record { fits = c.requires.remaining_le_length; queue = le_refl v.queued } in record {
-      bytes_len = c.requires.bytes_len;
-      remaining_le_length = subst (λ (w : Voice). w.remaining ≤ w.length) (sym e) (sound_room bytes v.queued cs v here).fits;
-    }
+    let here : Room v.queued v = record { fits = c.requires; queue = le_refl v.queued } in
+    subst (λ (w : Voice). w.remaining ≤ w.length)
+    (sym (c.sound_steps-v.ensures ∙ ap (in_turn (sound_steps bytes cs)) c.play_steps-v.ensures))
+    (sound_room bytes v.queued cs v here).fits
 
 pub returns : goal.returns
 unfolding settled
@@ -24,4 +23,4 @@ returns c =
     let bytes = c.args.bytes.now in
     let cs = c.args.coefficients.now in
     c.last_steps.ensures
-    ∙ ap (in_turn (last_steps bytes)) (c.sound_steps-b.ensures ∙ ap (in_turn (sound_steps bytes cs)) c.play_steps-a.ensures)
+    ∙ ap (in_turn (last_steps bytes)) (c.sound_steps-v.ensures ∙ ap (in_turn (sound_steps bytes cs)) c.play_steps-v.ensures)

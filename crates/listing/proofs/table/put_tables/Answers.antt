@@ -1,39 +1,31 @@
--- `listing::table::put_tables` meets its contract: the texts put one after the other. Assumes nothing.
-use mathlib.Core.Path.{◌≡◌, ap}
-use mathlib.Core.List.{List, ◌++◌}
-use Prim.Native.Nat.{ℕ}
-use native.Mathlib.Omega.{arith}
-use lib.IntN.{ℤ}
+-- `listing::table::put_tables` meets its contract: the lines put one after the other. Assumes nothing.
+use Rattle.std.proofs.Common.{◌≡◌, ◌∙◌, ◌+◌, ◌*◌, length, arith, rules}
 use mir.Syntax.{w16}
-use mir.Val.{SFits, to_z, of_z}
-use mir.Facts.{to_z-of_z}
-use borrow.Author.Rules.{rules}
-use Rattle.listing.specs.Text.{signed_decimal, column, newline}
-use Rattle.listing.specs.Sizes.{width}
-use Rattle.listing.proofs.Puts.{put_more, put_as}
+use mir.Val.{SFits}
+use Rattle.listing.specs.Sizes.{line_bytes}
+use Rattle.listing.proofs.Decimals.{shown, sample_narrow}
+use Rattle.listing.proofs.Puts.{put_more, put_text, put_row}
 use Rattle.listing.proofs.table.put_tables.Goals as goal
 
--- a column of what the code reads of a number
-shown : {z : ℤ} → SFits w16 z → column width (signed_decimal (to_z w16 (of_z w16 z))) ≡ column width (signed_decimal z)
-shown f = ap (λ (z : ℤ). column width (signed_decimal z)) (to_z-of_z f)
+pub number-newer-requires : goal.number-newer-requires
+number-newer-requires c = sample_narrow {z = c.args.h.yn1} (search rules)
 
-numbers : (c : goal.After-slice_known-6-1) → SFits w16 c.args.h.yn1 × SFits w16 c.args.h.yn2
-numbers c = (search rules, search rules)
+pub number-older-requires : goal.number-older-requires
+number-older-requires c = sample_narrow {z = c.args.h.yn2} (search rules)
 
-pub returns : goal.returns
-returns c =
-    let yn1 = (numbers c).0 in
-    let yn2 = (numbers c).1 in record {
-      tables = put_more (put_more c.put_headings-first.ensures.row c.put_rows-second.ensures.rows)
-          (put_more c.put_headings-third.ensures.row
-          (put_more (put_as (shown yn1) c.put_signed-middle.ensures.column)
-          (put_as (ap (λ (t : List ℕ). t ++ newline) (shown yn2)) c.put_last.ensures.column)));
-      next = omega (
-        arith,
-        c.put_headings-first.ensures.next,
-        c.put_rows-second.ensures.next,
-        c.put_headings-third.ensures.next,
-        c.put_signed-middle.ensures.next,
-        c.put_last.ensures.next,
-      );
-    }
+pub returns-clause-tables : goal.returns-clause-tables
+returns-clause-tables c =
+    let yn1 : SFits w16 c.args.h.yn1 = search rules in
+    let yn2 : SFits w16 c.args.h.yn2 = search rules in
+    let first : length c.line-headings.result ≡ line_bytes = search rules in
+    let second : length c.line-headings-2.result ≡ line_bytes = search rules in
+    let third : length c.line.result ≡ line_bytes = search rules in
+    let at = (length c.args.samples.now + 1) * line_bytes in
+    let samples = put_text {e = line_bytes} (put_row c.line-headings.ensures c.column.ensures c.column-2.ensures) c.put.ensures
+    (omega (arith, first)) in
+    let headings = put_text {e = at + line_bytes} (put_row c.line-headings-2.ensures c.column-3.ensures c.column-4.ensures)
+    c.put-2.ensures (omega (arith, second)) in
+    let history =
+    put_text {e = at + 2 * line_bytes} (put_row c.line.ensures (c.number-newer.ensures ∙ shown yn1) (c.number-older.ensures ∙ shown yn2))
+    c.put-3.ensures (omega (arith, third)) in
+    put_more (put_more samples c.put_rows.ensures) (put_more headings history)

@@ -1,61 +1,76 @@
 -- `mix_voice::signs::part` meets its contract: the product is brought nearer, put among the halves, and read from the bits. Assumes
 -- nothing.
-use mathlib.Core.Path.{◌≡◌, ap, ◌∙◌}
-use lib.IntN.{ℤ}
-use lib.Ieee.{Float, binary32, mul}
-use mir.Syntax.{w16}
+use mathlib.Core.Path.{◌≡◌, sym, ap, ◌∙◌, subst}
+use mathlib.Core.Bool.{Bool, not, cond}
+use lib.Dec.{T}
+use lib.IntN.{ℤ, ◌-ℤ◌}
+use lib.Signed.{shr_z}
+use lib.Ieee.{Float, binary32, of_bits, to_bits, add, sub, mul, is_nan}
+use mir.Syntax.{w16, w32}
 use mir.Val.{SFits, to_z, of_z}
-use mir.Facts.{to_z-of_z}
+use Rattle.std.specs.Float.{is_sign_negative}
 use Rattle.numbers.specs.Casts.{single}
 use Rattle.mixing.specs.Gain.{at_gain}
-use Rattle.mix_voice.specs.Quick.{quarter_of}
-use Rattle.mix_voice.proofs.Own.{own_product}
-use Rattle.mix_voice.proofs.Product.{middle_32, sum_number, bits_fit, apart_fits, cut_is}
+use Rattle.mix_voice.specs.Quick.{Around, +¼, -¼}
+use Rattle.mix_voice.proofs.Quarter.{quarter}
+use Rattle.mix_voice.proofs.Product.{Product, gain_product, quarter_by, base_by, middle_32, sum_number, apart_fits, cut_is}
 use Rattle.mix_voice.proofs.signs.part.Goals as goal
 
--- the product and its quarter by the sample, which the code has made a float
-module _ (g s q : Float) (v : ℤ) (fit : SFits w16 v) (s_is : s ≡ single (to_z w16 (of_z w16 v))) where
+-- the product, by the sample, which is handed in as a float
+module _ (g s : Float) (v : ℤ) (fit : SFits w16 v) (a : Around 63 g) (s_is : s ≡ single v) where
   x_is : mul binary32 g s ≡ mul binary32 g (single v)
-  x_is = ap (mul binary32 g) (s_is ∙ ap single (to_z-of_z fit))
+  x_is = ap (mul binary32 g) s_is
 
-  q_is : q ≡ quarter_of (mul binary32 g s) → q ≡ quarter_of (mul binary32 g (single v))
-  q_is e = e ∙ ap (λ (y : Float). quarter_of y) x_is
+  p : Product (mul binary32 g (single v))
+  p = gain_product g v a fit.sfits
 
-pub float_to_bits-result : goal.float_to_bits-result
-float_to_bits-result c =
-    let s = c.single_of_i16 in
-    let q = c.quarter_of-quarter in
-    let v = c.args.sample in
-    let fit = c.ranges.sample in
-    sum_number _ _ _ _ _ (own_product c.args.gain v c.requires fit.sfits) (x_is c.args.gain s.result q.result v fit s.ensures)
-    (q_is c.args.gain s.result q.result v fit s.ensures q.ensures) middle_32
+  number : T (not (is_nan (mul binary32 g s)))
+  number = subst (λ (x : Float). T (not (is_nan x))) (sym x_is) p.number
 
-pub overflow_cast-result : goal.overflow_cast-result
-overflow_cast-result c =
-    let s = c.single_of_i16 in
-    let q = c.quarter_of-quarter in
-    let v = c.args.sample in
-    let fit = c.ranges.sample in
-    bits_fit _ _ _ _ _ (own_product c.args.gain v c.requires fit.sfits) (x_is c.args.gain s.result q.result v fit s.ensures)
-    (q_is c.args.gain s.result q.result v fit s.ensures q.ensures) middle_32
+  module _ (negative : Bool) (e : negative ≡ is_sign_negative (mul binary32 g s)) where
+    sign : negative ≡ p.b
+    sign = e ∙ ap is_sign_negative x_is ∙ p.sign
+
+    quarter_is : (q : Float) → q ≡ cond negative -¼ +¼ → q ≡ quarter p.b
+    quarter_is q h = h ∙ ap (λ (b : Bool). cond b -¼ +¼) sign ∙ quarter_by p.b
+
+    -- the bits of the sum, less the base, as the code has them
+    module _ (q : Float) (h : q ≡ cond negative -¼ +¼) where
+      abbrev sum : Float
+      sum = add binary32 (sub binary32 (mul binary32 g s) q) (of_bits binary32 0x4ac0_0000)
+
+      sum_is_number : T (not (is_nan sum))
+      sum_is_number = sum_number _ _ q _ p x_is (quarter_is q h) middle_32
+
+      module _ (bits base : ℤ) (bits_fit : SFits w32 bits) (base_fit : SFits w32 base) (eb : bits ≡ to_z w32 (to_bits binary32 sum))
+          (b : base ≡ base_by negative) where
+        fits : SFits w32 (to_z w32 (of_z w32 bits) -ℤ to_z w32 (of_z w32 base))
+        fits = apart_fits _ _ q _ p x_is (quarter_is q h) middle_32 bits base bits_fit base_fit eb (b ∙ ap base_by sign)
+
+        is : to_z w32 (of_z w32 (shr_z (to_z w32 (of_z w32 (to_z w32 (of_z w32 bits) -ℤ to_z w32 (of_z w32 base)))) 2)) ≡ at_gain g v
+        unfolding at_gain
+        is = cut_is _ _ q _ p x_is (quarter_is q h) middle_32 bits base bits_fit base_fit eb (b ∙ ap base_by sign)
+
+pub is_sign_negative-negative-requires : goal.is_sign_negative-negative-requires
+is_sign_negative-negative-requires c =
+    number c.args.gain c.args.s c.args.sample c.ranges.sample c.requires.gain_value c.requires.s_value
+
+pub float_to_bits-t : goal.float_to_bits-t
+float_to_bits-t c =
+    let n = c.is_sign_negative-negative in
+    sum_is_number c.args.gain c.args.s c.args.sample c.ranges.sample c.requires.gain_value c.requires.s_value n.result n.ensures
+    c.quarter_of.result c.quarter_of.ensures
 
 pub overflow_sub-result : goal.overflow_sub-result
 overflow_sub-result c =
-    let s = c.single_of_i16 in
-    let q = c.quarter_of-quarter in
-    let b = c.base_of-base in
-    let v = c.args.sample in
-    let fit = c.ranges.sample in
-    apart_fits _ _ _ _ _ (own_product c.args.gain v c.requires fit.sfits) (x_is c.args.gain s.result q.result v fit s.ensures)
-    (q_is c.args.gain s.result q.result v fit s.ensures q.ensures) middle_32 b.result (record { sfits = b.type_inv }) b.ensures
+    let n = c.is_sign_negative-negative in
+    fits c.args.gain c.args.s c.args.sample c.ranges.sample c.requires.gain_value c.requires.s_value n.result n.ensures
+    c.quarter_of.result c.quarter_of.ensures c.cast_signed.result c.base_of.result (record { sfits = c.cast_signed.type_inv })
+    (record { sfits = c.base_of.type_inv }) c.cast_signed.ensures c.base_of.ensures
 
 pub returns : goal.returns
-unfolding at_gain
 returns c =
-    let s = c.single_of_i16 in
-    let q = c.quarter_of-quarter in
-    let b = c.base_of-base in
-    let v = c.args.sample in
-    let fit = c.ranges.sample in
-    cut_is _ _ _ _ _ (own_product c.args.gain v c.requires fit.sfits) (x_is c.args.gain s.result q.result v fit s.ensures)
-    (q_is c.args.gain s.result q.result v fit s.ensures q.ensures) middle_32 b.result (record { sfits = b.type_inv }) b.ensures
+    let n = c.is_sign_negative-negative in
+    is c.args.gain c.args.s c.args.sample c.ranges.sample c.requires.gain_value c.requires.s_value n.result n.ensures
+    c.quarter_of.result c.quarter_of.ensures c.cast_signed.result c.base_of.result (record { sfits = c.cast_signed.type_inv })
+    (record { sfits = c.base_of.type_inv }) c.cast_signed.ensures c.base_of.ensures

@@ -1,13 +1,10 @@
--- `mixer::tick::tick` meets its contract: the number found makes the regions ready, and they go in the order of their use and come back so.
--- Assumes nothing.
-use mathlib.Core.Path.{ap, ◌∙◌}
-use mathlib.Core.List.{List}
-use Prim.Native.Nat.{ℕ}
-use lib.ListN.{length}
-use Rattle.mixer.specs.declared.tick.Mixed.{Mixed}
-use Rattle.mixer.specs.Tick.{Outcome}
-use Rattle.mixer.proofs.Outcomes.{ready, read_first, read_second}
-use borrow.Author.Rules.{rules}
+-- `mixer::tick::tick` meets its contract: a served call is served with the regions in the order of their use, and they come back so; a
+-- refused one leaves both. Assumes nothing.
+use Rattle.std.proofs.Common.{ℕ, List, sym, ap, ◌∙◌, subst, Err}
+use Rattle.refusals.proofs.Numbers.{ok_exactly}
+use Rattle.region.specs.Choice.{number_of_region}
+use Rattle.mixer.specs.Tick.{Mixed, Outcome, GivesBack, refusal}
+use Rattle.mixer.proofs.Outcomes.{served_is, refused_is}
 use Rattle.mixer.proofs.tick.tick.Goals as goal
 
 -- the three parts of an outcome
@@ -20,40 +17,40 @@ first o = o.first
 abbrev second : Outcome → List ℕ
 second o = o.second
 
-pub serve-requires : goal.serve-requires
-serve-requires c =
+pub returns-in-Ok-default-Zero : goal.returns-in-Ok-default-Zero
+returns-in-Ok-default-Zero c =
     let a = c.args in
-    let one = length a.first.now in
-    let two = length a.second.now in
-    let r = ready one two a.l (length a.given.now) a.which c.number_of-number.result c.number_of-number.ensures in
-    search rules
-
-pub returns-then-which-eq0 : goal.returns-then-which-eq0
-returns-then-which-eq0 c =
-    let a = c.args in
-    let whole = read_first a.l a.m a.given.now a.which a.first.now a.second.now c.number_of-number.result in
-    let right = whole c.number_of-number.ensures c.if-which-eq0.true in
-    let e = c.serve.ensures in record {
-      answer = e.answer ∙ ap answer right;
-      left0 = e.read ∙ ap first right;
-      left1 = e.written ∙ ap second right;
+    let ok = c.in-Ok-default-Zero in
+    let known = ok.ensures.accepted in
+    let zero = sym known.read ∙ ap number_of_region ok.field-0-1-is in
+    let is = served_is a.l a.m ok.mixes.now a.given.now a.which a.first.now a.second.now 0 ok.ensures.number zero known.whole in record {
+      answer = subst (GivesBack c.mix.result) (ap answer is) c.mix.ensures.answer;
+      first_region = c.mix.ensures.read ∙ ap first is;
+      second_region = c.mix.ensures.written ∙ ap second is;
     }
 
-pub serve-requires-2 : goal.serve-requires-2
-serve-requires-2 c =
+pub returns-in-Ok-default-One : goal.returns-in-Ok-default-One
+returns-in-Ok-default-One c =
     let a = c.args in
-    let one = length a.first.now in
-    let two = length a.second.now in
-    let r = ready one two a.l (length a.given.now) a.which c.number_of-number.result c.number_of-number.ensures in
-    search rules
+    let ok = c.in-Ok-default-One in
+    let known = ok.ensures.accepted in
+    let one = sym known.read ∙ ap number_of_region ok.field-0-1-is in
+    let is = served_is a.l a.m ok.mixes.now a.given.now a.which a.first.now a.second.now 1 ok.ensures.number one known.whole in
+    let mix = c.mix-in-Ok-default-One in record {
+      answer = subst (GivesBack mix.result) (ap answer is) mix.ensures.answer;
+      first_region = mix.ensures.written ∙ ap first is;
+      second_region = mix.ensures.read ∙ ap second is;
+    }
 
-pub returns : goal.returns
-returns c =
+pub returns-in-Err : goal.returns-in-Err
+returns-in-Err c =
     let a = c.args in
-    let whole = read_second a.l a.m a.given.now a.which a.first.now a.second.now c.number_of-number.result in
-    let right = whole c.number_of-number.ensures c.if-which-eq0.false in
-    let e = c.serve-2.ensures in record {
-      answer = e.answer ∙ ap answer right;
-      left0 = e.written ∙ ap first right;
-      left1 = e.read ∙ ap second right;
+    let e = c.in-Err.ensures.number in
+    let is =
+    sym
+    (refused_is a.l a.m a.given.now a.which a.first.now a.second.now
+    (λ z. let ok = (ok_exactly {A = Unit {0}} (Err c.in-Err.reason)).0 (e ∙ z) in cc)) in record {
+      answer = subst (GivesBack c.refuse.result) (ap (refusal a.m) e ∙ ap answer is) c.refuse.ensures;
+      first_region = ap first is;
+      second_region = ap second is;
     }

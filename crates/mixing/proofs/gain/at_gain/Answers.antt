@@ -11,7 +11,7 @@ use Rattle.mixing.proofs.gain.at_gain.Goals as goal
 pub returns : goal.returns
 unfolding at_gain
 returns c =
-    let sample = c.single_of_i16.ensures ∙ ap single (to_z-of_z c.ranges.sample) in
+    let sample = c.from.ensures ∙ ap single (to_z-of_z c.ranges.sample) in
     result_read w32 c.cast_i32.result c.cast_i32.type_inv
     ∙ c.cast_i32.ensures
     ∙ (λ k. cast_i32 (mul binary32 c.args.gain (sample k)))

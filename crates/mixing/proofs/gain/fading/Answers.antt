@@ -17,7 +17,7 @@ last_is = refl
 pub returns : goal.returns
 unfolding fading
 returns c =
-    let sample = c.single_of_i16.ensures ∙ ap single (to_z-of_z c.ranges.sample) in
+    let sample = c.from.ensures ∙ ap single (to_z-of_z c.ranges.sample) in
     let from = c.args.from in
     result_read w32 c.cast_i32.result c.cast_i32.type_inv
     ∙ c.cast_i32.ensures

@@ -11,8 +11,8 @@ use Rattle.mixing.proofs.interpolate.interpolate.Goals as goal
 pub returns : goal.returns
 unfolding interpolate
 returns c =
-    let a = c.double_of_i16-from.ensures ∙ ap double (to_z-of_z c.ranges.a) in
-    let b = c.double_of_i16-to.ensures ∙ ap double (to_z-of_z c.ranges.b) in
+    let a = c.from-from.ensures ∙ ap double (to_z-of_z c.ranges.a) in
+    let b = c.from-to.ensures ∙ ap double (to_z-of_z c.ranges.b) in
     result_read w16 c.cast_i16.result c.cast_i16.type_inv
     ∙ c.cast_i16.ensures
     ∙ (λ k. cast_i16 (add binary64 (a k) (mul binary64 (sub binary64 (b k) (a k)) c.args.fraction)))

@@ -1,13 +1,29 @@
 -- `numbers::bits::gain_of` meets its contract: the test says whether the float is finite. Assumes nothing.
-use Rattle.std.proofs.Common.{sym, ◌∙◌}
-use Rattle.numbers.proofs.Patterns.{pattern_ok, gain_yes, gain_no}
+use Rattle.std.proofs.Common.{◌≡◌, Bool, sym, ap, ◌∙◌}
+use Rattle.std.specs.Float.{float_is_finite}
+use lib.Ieee.{Float, binary32, of_bits}
+use lib.Ieee.Scale.{finite}
+use Rattle.lists.proofs.Bools.{cond_yes, cond_no}
+use Rattle.numbers.specs.Bits.{gain}
+use Rattle.numbers.specs.Literals.{+0}
+use Rattle.numbers.proofs.Forms.{finite_is}
+use Rattle.numbers.proofs.Literals.{zero_32}
 use Rattle.numbers.proofs.bits.gain_of.Goals as goal
 
-pub float_from_bits-result : goal.float_from_bits-result
-float_from_bits-result c = pattern_ok c.args.bits (sym c.finite_bits.ensures ∙ c.if-finite_bits.true)
+-- what std's test of a float says of the float that it is
+tested : (x y : Float) (b : Bool) → y ≡ x → b ≡ float_is_finite y → finite x ≡ b
+tested x y b e t = sym (t ∙ finite_is y ∙ ap finite e)
 
-pub returns-then-finite_bits : goal.returns-then-finite_bits
-returns-then-finite_bits c = gain_yes c.args.bits (sym c.finite_bits.ensures ∙ c.if-finite_bits.true)
+pub returns-then-is_finite : goal.returns-then-is_finite
+unfolding gain
+returns-then-is_finite c =
+    let x = of_bits binary32 c.args.bits in
+    let e = c.f32_from_bits_with_nan-gain.ensures in
+    e ∙ sym (cond_yes x +0 (tested _ _ _ e c.is_finite.ensures.value ∙ c.if-is_finite.true))
 
-pub returns : goal.returns
-returns c = gain_no c.args.bits (sym c.finite_bits.ensures ∙ c.if-finite_bits.false)
+pub returns-else-is_finite : goal.returns-else-is_finite
+unfolding gain
+returns-else-is_finite c =
+    let x = of_bits binary32 c.args.bits in
+    let e = c.f32_from_bits_with_nan-gain.ensures in
+    zero_32 ∙ sym (cond_no x +0 (tested _ _ _ e c.is_finite.ensures.value ∙ c.if-is_finite.false))

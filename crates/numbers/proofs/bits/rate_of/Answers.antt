@@ -1,20 +1,21 @@
--- `numbers::bits::rate_of` meets its contract: the tests say whether the float is finite and whether it is above 0. Assumes nothing.
-use Rattle.std.proofs.Common.{sym, ◌∙◌}
-use borrow.Author.Tests.{not-true, not-false}
-use Rattle.numbers.proofs.Patterns.{pattern_ok, rate_yes, rate_not_above, rate_not_finite}
+-- `numbers::bits::rate_of` meets its contract: the test says whether the float is a rate. Assumes nothing.
+use Rattle.std.proofs.Common.{sym, ap, ◌∙◌}
+use lib.Ieee.{binary32, of_bits}
+use Rattle.lists.proofs.Bools.{cond_yes, cond_no}
+use Rattle.numbers.specs.Bits.{rate}
+use Rattle.numbers.specs.Literals.{+1}
+use Rattle.numbers.specs.Tests.{is_rate}
+use Rattle.numbers.proofs.Literals.{one_64}
 use Rattle.numbers.proofs.bits.rate_of.Goals as goal
 
-pub returns-then-not-finite_bits : goal.returns-then-not-finite_bits
-returns-then-not-finite_bits c = rate_not_finite c.args.bits (sym c.finite_bits.ensures ∙ not-true _ c.if-not-finite_bits.true-raw)
+pub returns-then-is_rate : goal.returns-then-is_rate
+unfolding rate
+returns-then-is_rate c =
+    let made = c.double_of_single-rate.ensures ∙ c.f32_from_bits_with_nan.ensures in
+    made ∙ sym (cond_yes (of_bits binary32 c.args.bits) +1 (sym (c.is_rate.ensures ∙ ap is_rate made) ∙ c.if-is_rate.true))
 
-pub float_from_bits-rate : goal.float_from_bits-rate
-float_from_bits-rate c = pattern_ok c.args.bits (sym c.finite_bits.ensures ∙ not-false _ c.if-not-finite_bits.false-raw)
-
-pub returns-then-rate : goal.returns-then-rate
-returns-then-rate c =
-    c.double_of_single.ensures
-    ∙ rate_yes c.args.bits (sym c.finite_bits.ensures ∙ not-false _ c.if-not-finite_bits.false-raw)
-    c.if-rate.true
-
-pub returns-else-rate : goal.returns-else-rate
-returns-else-rate c = rate_not_above c.args.bits c.if-rate.false
+pub returns-else-is_rate : goal.returns-else-is_rate
+unfolding rate
+returns-else-is_rate c =
+    let made = c.double_of_single-rate.ensures ∙ c.f32_from_bits_with_nan.ensures in
+    one_64 ∙ sym (cond_no (of_bits binary32 c.args.bits) +1 (sym (c.is_rate.ensures ∙ ap is_rate made) ∙ c.if-is_rate.false))

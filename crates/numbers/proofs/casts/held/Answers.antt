@@ -1,22 +1,19 @@
 -- `numbers::casts::held` meets its contract. Assumes nothing.
-use Rattle.std.proofs.Common.{sym, ap, ◌∙◌}
-use lib.Ieee.{Float}
-use Rattle.lists.proofs.Bools.{cond_yes, cond_no}
-use Rattle.numbers.specs.Literals.{+0}
-use Rattle.numbers.specs.Held.{top, bottom, at_most, at_least, held}
-use Rattle.numbers.proofs.Literals.{zero_32, top_32, bottom_32}
+use Rattle.std.proofs.Common.{◌≡◌, Bool, sym, ap, ◌∙◌}
+use Rattle.numbers.proofs.Holding.{held_number, held_none}
 use Rattle.numbers.proofs.casts.held.Goals as goal
 
-pub returns-then-x : goal.returns-then-x
-unfolding held
-returns-then-x c =
-    let x = c.args.x in
-    let most = c.at_most.ensures ∙ ap (λ (b : Float). at_most b x) top_32 in
-    c.at_least-within.ensures ∙ (λ i. at_least (bottom_32 i) (most i))
-    ∙ sym (cond_yes (at_least bottom (at_most top x)) +0 c.if-x.true)
+-- what a test answers, of the same test by another name
+tested : {r p q b : Bool} → r ≡ p → p ≡ q → r ≡ b → q ≡ b
+tested e f t = sym f ∙ sym e ∙ t
 
-pub returns-else-x : goal.returns-else-x
-unfolding held
-returns-else-x c =
-    let x = c.args.x in
-    zero_32 ∙ sym (cond_no (at_least bottom (at_most top x)) +0 c.if-x.false)
+pub returns-then-eq : goal.returns-then-eq
+returns-then-eq g c =
+    held_number (g.F.Real.float c.args.x) _ _ _ _ (ap g.F.Real.float c.HIGH.ensures ∙ g.met.F.Real.numbers.high_is)
+    (ap g.F.Real.float c.LOW.ensures ∙ g.met.F.Real.numbers.low_is) c.at_most.ensures c.at_least-within.ensures
+    (tested c.eq.ensures (g.met.F.Real.operates.equal_is c.args.x c.args.x) c.if-eq.true)
+
+pub returns-else-eq : goal.returns-else-eq
+returns-else-eq g c =
+    held_none (g.F.Real.float c.args.x) _ (ap g.F.Real.float c.ZERO.ensures ∙ g.met.F.Real.numbers.zero_is)
+    (tested c.eq.ensures (g.met.F.Real.operates.equal_is c.args.x c.args.x) c.if-eq.false)

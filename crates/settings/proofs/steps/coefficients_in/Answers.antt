@@ -1,24 +1,11 @@
--- `settings::steps::coefficients_in` meets its contract: up to `i` the array is the table. Assumes nothing.
-use mathlib.Core.Path.{◌≡◌, sym, ◌∙◌}
-use mathlib.Core.List.{List}
-use native.Mathlib.Omega.{arith}
-use lib.IntN.{ℤ, pos}
-use lib.ListN.{replicate}
-use mir.Syntax.{w16}
-use mir.Val.{to_z, of_z}
-use Rattle.lists.proofs.Fill.{filling_more}
-use Rattle.lists.proofs.Tabulate.{length_tabulate, get_d_tabulate}
-use borrow.Author.Rules.{rules}
-use Rattle.settings.proofs.steps.coefficients_in.Invariants.{number, table}
+-- `settings::steps::coefficients_in` meets its contract: each call of the closure gives the number at its index. Assumes nothing.
+use Rattle.std.proofs.Common.{rules, ◌*◌, pos}
+use Rattle.lists.proofs.FromFn.{made}
+use Rattle.numbers.specs.Wrap.{signed16}
+use Rattle.little.specs.Little.{at16}
 use Rattle.settings.proofs.steps.coefficients_in.Goals as goal
 
-abbrev zeros : List ℤ
-zeros = replicate 16 (pos 0)
-
-pub loop-i-preserved : goal.loop-i-preserved
-loop-i-preserved c =
-    let bytes = c.args.bytes.now in
-    let r = c.signed_at-x.result in
-    let is : to_z w16 (of_z w16 r) ≡ r = search rules in
-    filling_more (table bytes) zeros c.loop-i.all c.loop-i.i _ (pos 0) (length_tabulate (number bytes) 16) (omega arith) c.loop-i.invariant
-    (is ∙ c.signed_at-x.ensures ∙ sym (get_d_tabulate (number bytes) 16 c.loop-i.i (pos 0) (omega arith)))
+pub returns : goal.returns
+returns c =
+    made _ (λ i. signed16 (at16 c.args.bytes.now (i * 2))) _ 16 (pos 0) (λ i y q lt k. search rules) c.from_fn.result
+    c.from_fn.ensures.items

@@ -10,5 +10,5 @@ returns-then-count-eq0 c =
 
 pub returns : goal.returns
 returns c =
-    let n = c.fewer-count.result in
+    let n = c.min-count.result in
     some_reached c.args.c c.args.room n _ c.requires.fraction_value zero_64 (omega arith) (omega arith) (omega arith)

@@ -1,46 +1,28 @@
--- `voice::tidy::tidy_queue` meets its contract: the loop fills a queue of blank entries from the front, as far as entries are queued.
--- Assumes nothing.
-use Prim.Native.Nat.{ℕ, ◌≤◌, ◌<◌}
-use mathlib.Core.List.{List}
-use mathlib.Core.Path.{sym, ◌∙◌, ap}
-use lib.ListN.{replicate, length-replicate}
-use native.Mathlib.Omega.{arith}
-use borrow.Author.Tests.{ltb-true}
-use Rattle.lists.proofs.Fill.{filling_more}
-use Rattle.voice.specs.declared.record.Entry.{Entry}
+-- `voice::tidy::tidy_queue` meets its contract: the loop tidies the places from the front. Assumes nothing.
+use Rattle.std.proofs.Common.{◌≡◌, ◌<◌, length, ltb, sym, ap, ◌∙◌, arith, rules}
+use Rattle.lists.proofs.Fill.{filling_more, filling_next, filling_all}
 use Rattle.voice.specs.Blank.{places, blank_entry}
-use Rattle.voice.specs.Set.{set_voice_queue}
-use Rattle.voice.specs.Tidy.{tidy_queue}
-use Rattle.voice.proofs.Tidied.{length_queue, front_at, rest_blank}
+use Rattle.voice.specs.Tidy.{tidy_under, tidy_queue}
+use Rattle.voice.proofs.Tidied.{length_queue, queue_at}
 use Rattle.voice.proofs.tidy.tidy_queue.Goals as goal
-use Rattle.voice.proofs.tidy.tidy_queue.Goals.{then-loop-i-test+else-i-n, else-loop-i-test}
 
--- where the loop ends, what lies behind is past the count: every entry was seen, or every place
-far_queued : (n i : ℕ) → n ≤ i → (k : ℕ) → i ≤ k → k < places → n ≤ k
-far_queued n i h k l b = omega arith
-
-far_full : (n i : ℕ) → places ≤ i → (k : ℕ) → i ≤ k → k < places → n ≤ k
-far_full n i h k l b = absurd (omega arith)
-
-pub loop-i-preserved : goal.loop-i-preserved
+pub loop-place-preserved : goal.loop-place-preserved
 unfolding blank_entry
-loop-i-preserved c =
-    let l = c.loop-i in
-    let v = c.args.v in
-    let h : l.i < places = omega arith in
-    let queued : l.i < v.queued = ltb-true l.i v.queued c.if-i-n.true-raw in
-    filling_more (tidy_queue v.queued v.queue) (replicate places blank_entry) l.q l.i c.tidy_entry-t.result blank_entry
-    (length_queue v.queued v.queue ∙ sym (length-replicate places blank_entry))
-    (omega (arith, length-replicate places blank_entry)) l.invariant
-    (c.tidy_entry-t.ensures ∙ sym (front_at v.queued v.queue l.i queued h))
+loop-place-preserved c =
+    let l = c.loop-place in
+    let n = c.args.queued in
+    let q = c.args.queue.now in
+    let long : length c.args.queue.now ≡ places = search rules in
+    let same = length_queue n q ∙ sym long in
+    let h : l.place < places = omega arith in
+    filling_more (tidy_queue n q) q l.queue l.place _ blank_entry same (omega arith) l.invariant
+    (c.tidy_under.ensures
+    ∙ ap (tidy_under (ltb l.place n)) (filling_next (tidy_queue n q) q l.queue l.place blank_entry same l.invariant)
+    ∙ sym (queue_at n q l.place blank_entry h))
 
 pub returns : goal.returns
 returns c =
-    let l = c.loop-i in
-    let v = c.args.v in
-    let past : (k : ℕ) → l.i ≤ k → k < places → v.queued ≤ k =
-    elim c.loop-i-test.branch [
-      | then-loop-i-test+else-i-n w ↦ far_queued v.queued l.i w.if-i-n.false
-      | else-loop-i-test w ↦ far_full v.queued l.i w.loop-i-test.false
-    ] in
-    ap (λ (q : List Entry). set_voice_queue q v) (rest_blank v.queued v.queue l.q l.i past l.invariant)
+    let q = c.args.queue.now in
+    let long : length c.args.queue.now ≡ places = search rules in
+    filling_all (tidy_queue c.args.queued q) q c.loop-place.queue c.loop-place.place
+    (length_queue c.args.queued q ∙ sym long) (omega arith) c.loop-place.invariant

@@ -1,11 +1,7 @@
 -- `voice::tidy::tidy_ramp` meets its contract: the loop fills the ramps from the front. Assumes nothing.
-use Prim.Native.Nat.{◌-◌}
 use Rattle.lists.proofs.Fill.{Filling}
 use Rattle.voice.specs.Tidy.{tidy_ramp}
 use Rattle.voice.proofs.tidy.tidy_ramp.Given as goal
 
 abbrev pub invariant-loop-k : goal.invariant-loop-k
 invariant-loop-k l = Filling (tidy_ramp l.marks l.initial.ramp) l.initial.ramp l.ramp l.k
-
-abbrev pub decreases-loop-k : goal.decreases-loop-k
-decreases-loop-k l = 12 - l.k

@@ -3,7 +3,7 @@ use mathlib.Core.Path.{◌≡◌, sym, ◌∙◌, subst}
 use native.Mathlib.Omega.{arith}
 use lib.Dec.{T}
 use borrow.Author.Tests.{not-true, not-false}
-use Rattle.lists.proofs.Bools.{cond_yes, cond_no, or_neither}
+use Rattle.lists.proofs.Bools.{cond_yes, cond_no}
 use Rattle.filters.specs.Range.{filters_in_range}
 use Rattle.voice.specs.Set.{set_voice_filters, set_voice_frame}
 use Rattle.voice.specs.declared.record.Voice.{Voice}
@@ -20,38 +20,38 @@ returns-then-not-v c =
       lane = sym (cond_no _ _ off);
     }
 
-pub pass-passed-requires : goal.pass-passed-requires
-pass-passed-requires c =
+pub pass-w-requires : goal.pass-w-requires
+pass-w-requires c =
     let a = c.args in
     let e = c.play_frame-played.ensures in record {
-      t = subst (λ (v : Voice). T (filters_in_range v.filters)) (sym e.«record»)
-          (played_range a.window.now a.base a.v a.lane.now c.requires.well_formed);
-      produced_le_frame_samples = omega (arith, e.produced, played_most a.window.now a.base a.v a.lane.now);
+      filters_in_range = subst (λ (v : Voice). T (filters_in_range v.filters)) (sym e.«record»)
+          (played_range a.window.bytes.now a.window.base a.v a.lane.now c.requires.well_formed);
+      produced_le_frame_samples = omega (arith, e.produced, played_most a.window.bytes.now a.window.base a.v a.lane.now);
     }
 
-pub returns-then-given : goal.returns-then-given
+pub returns-then-w : goal.returns-then-w
 unfolding sounding sounding_lane filtered
-returns-then-given c =
+returns-then-w c =
     let a = c.args in
     let e = c.play_frame-played.ensures in
     let on = not-false a.v.enabled c.if-not-v.false in
     let w = c.play_frame-played.result.voice in
     let n = c.play_frame-played.result.produced in
-    let passed : set_voice_frame c.pass-passed.result.frame (set_voice_filters c.pass-passed.result.filters w) ≡ filtered n w =
-    λ i. set_voice_frame (c.pass-passed.ensures.frame i) (set_voice_filters (c.pass-passed.ensures.filters i) w) in record {
+    let passed : set_voice_frame c.pass-w.new.frame (set_voice_filters c.pass-w.result w) ≡ filtered n w =
+    λ i. set_voice_frame (c.pass-w.ensures.frame i) (set_voice_filters (c.pass-w.ensures.filters i) w) in record {
       «record» = passed ∙ (λ i. filtered (e.produced i) (e.«record» i)) ∙ sym (cond_yes _ _ on);
       lane = e.lane ∙ sym (cond_yes _ _ on);
     }
 
-pub returns-else-given : goal.returns-else-given
+pub returns-else-w-2 : goal.returns-else-w-2
 unfolding sounding sounding_lane
-returns-else-given c =
+returns-else-w-2 c =
     let a = c.args in
     let e = c.play_frame-played.ensures in
     let on = not-false a.v.enabled c.if-not-v.false in
     let w = c.play_frame-played.result.voice in
-    let off = or_neither w.filters.has_simple w.filters.has_biquad c.if-given.false in record {
-      «record» = sym (filtered_off c.play_frame-played.result.produced w off.0 off.1) ∙ (λ i. filtered (e.produced i) (e.«record» i))
+    record {
+      «record» = sym (filtered_off c.play_frame-played.result.produced w c.if-w.false c.if-w-2.false) ∙ (λ i. filtered (e.produced i) (e.«record» i))
           ∙ sym (cond_yes _ _ on);
       lane = e.lane ∙ sym (cond_yes _ _ on);
     }

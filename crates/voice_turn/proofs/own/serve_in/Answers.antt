@@ -2,15 +2,12 @@
 -- put where it stood. Assumes nothing.
 use mathlib.Core.Path.{sym, ap, ◌∙◌, subst}
 use mathlib.Core.Bool.{false}
-use mathlib.Core.List.{List}
 use Prim.Native.Nat.{ℕ, ◌+◌, ◌-◌, ◌*◌}
 use native.Mathlib.Omega.{arith}
 use lib.ListN.{length, take, drop}
-use Rattle.fields.specs.Fields.{configuration, status}
-use Rattle.lists.proofs.Splice.{length_part, lent_long}
-use Rattle.layout.specs.declared.Layout.{Layout}
+use Rattle.lists.proofs.Splice.{lent_long}
 use Rattle.voice.specs.Malformed.{WellFormed}
-use Rattle.voice_frame.specs.VoiceFrame.{voice_frame, Answer, number_of, voice_after, lane_after}
+use Rattle.voice_frame.specs.VoiceFrame.{Answer, number_of, voice_after, lane_after}
 use Rattle.voice_frame.specs.VoiceFrame.{configuration_after, status_after, mixes_after}
 use Rattle.stems.specs.Memory.{lane_length}
 use Rattle.voice_turn.specs.Turn.{answer_to}
@@ -22,33 +19,30 @@ pub overflow_mul-from : goal.overflow_mul-from
 unfolding lane_length
 overflow_mul-from c = search rules
 
-pub overflow_add-to : goal.overflow_add-to
+pub overflow_add-from : goal.overflow_add-from
 unfolding lane_length
-overflow_add-to c = search rules
+overflow_add-from c = search rules
 
 pub offset_bounds-lanes-from : goal.offset_bounds-lanes-from
 unfolding lane_length
 offset_bounds-lanes-from c = search rules
 
-pub slice_bounds-serve-end : goal.slice_bounds-serve-end
+pub slice_bounds-serve_parts-end : goal.slice_bounds-serve_parts-end
 unfolding lane_length
-slice_bounds-serve-end c = search rules
+slice_bounds-serve_parts-end c = search rules
 
-pub serve-requires : goal.serve-requires
+pub serve_parts-requires : goal.serve_parts-requires
 unfolding lane_length
-serve-requires c =
+serve_parts-requires c =
     let a = c.args in
     let l = a.fixed.layout in
     let room = c.requires.room in
     let L = lane_length (length a.lanes.now) in
     let lane = lent_long (a.i * L) L a.lanes.now room.lane in
-    let long = length_part (l.coefficients + 32 * a.i) 32 a.read.now room.coefficients in
     let report = lent_long (l.statuses + 12 * a.i) 12 a.other.now room.status in record {
       well_formed = subst (λ (n : ℕ). WellFormed n a.v) (sym lane) c.requires.well_formed;
       lane_len_bound = omega (arith, lane, room.short);
       bytes_len = lent_long (l.configurations + 192 * a.i) 192 a.read.now room.configuration;
-      coefficients_len = ap length c.coefficients_at-coefficients.ensures ∙ long;
-      mixes_len = room.all;
       report_len = report;
     }
 
@@ -56,7 +50,7 @@ pub returns : goal.returns
 unfolding lane_length
 returns c =
     let a = c.args in
-    let e = c.serve.ensures in
+    let e = c.serve_parts.ensures in
     let room = c.requires.room in
     let l = a.fixed.layout in
     let L = lane_length (length a.lanes.now) in
@@ -74,15 +68,15 @@ returns c =
     let lane_is = e.lane ∙ ap (λ (x : Answer). lane_after x lane) same in
     let bytes_is = e.configuration ∙ ap (λ (x : Answer). configuration_after x bytes) same in
     let report_is = e.status ∙ ap (λ (x : Answer). status_after x report) same in
-    let lane_long = c.serve.auto.lane ∙ lent_long (a.i * L) L lanes room.lane in
-    let bytes_long = c.serve.auto.bytes ∙ lent_long (l.configurations + 192 * a.i) 192 read room.configuration in
-    let report_long = c.serve.auto.report ∙ lent_long (l.statuses + 12 * a.i) 12 other room.status in record {
+    let lane_long = c.serve_parts.auto.lane ∙ lent_long (a.i * L) L lanes room.lane in
+    let bytes_long = c.serve_parts.auto.bytes ∙ lent_long (l.configurations + 192 * a.i) 192 read room.configuration in
+    let report_long = c.serve_parts.auto.report ∙ lent_long (l.statuses + 12 * a.i) 12 other room.status in record {
       number = e.number ∙ ap number_of same;
       «record» = e.«record» ∙ ap (λ (x : Answer). voice_after x a.v) same;
-      read = read_back l a.i answer read c.serve.new.bytes room.configuration bytes_is bytes_long;
-      other = other_back l a.i answer other c.serve.new.report room.status report_is report_long;
-      lanes = lanes_back a.i answer lanes c.serve.new.lane room.lane lane_is lane_long;
+      read = read_back l a.i answer read c.serve_parts.new.bytes room.configuration bytes_is bytes_long;
+      other = other_back l a.i answer other c.serve_parts.new.report room.status report_is report_long;
+      lanes = lanes_back a.i answer lanes c.serve_parts.new.lane room.lane lane_is lane_long;
       mixes = e.mixes ∙ ap (λ (x : Answer). mixes_after x a.mixes.now) same;
-      long = long L answer lane c.serve.new.lane bytes c.serve.new.bytes report c.serve.new.report lane_is lane_long bytes_is bytes_long
+      long = long L answer lane c.serve_parts.new.lane bytes c.serve_parts.new.bytes report c.serve_parts.new.report lane_is lane_long bytes_is bytes_long
           report_is report_long;
     }

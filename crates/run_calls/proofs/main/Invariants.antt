@@ -1,5 +1,0 @@
--- `run_calls::main` is safe and ends: the turns that are left fall. Assumes nothing.
-use Rattle.run_calls.proofs.main.Given as goal
-
-abbrev pub decreases-loop-turns : goal.decreases-loop-turns
-decreases-loop-turns l = l.turns

@@ -1,5 +1,0 @@
--- `run_voice::main` is safe and ends: the turns that are left fall. Assumes nothing.
-use Rattle.run_voice.proofs.main.Given as goal
-
-abbrev pub decreases-loop-turns : goal.decreases-loop-turns
-decreases-loop-turns l = l.turns
