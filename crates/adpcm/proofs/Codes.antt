@@ -34,7 +34,8 @@ nibble_even (b ∷ bytes) i (suc k) e h =
     two : (k : ℕ) → suc k * 2 ≡ suc (suc (k * 2))
     two k = omega arith
 
-pub nibble_odd : (bytes : List ℕ) (i k : ℕ) → i ≡ suc (k * 2) → k < length bytes → get_or (nibbles bytes) i 0 ≡ second_nibble (get_or bytes k 0)
+pub nibble_odd : (bytes : List ℕ) (i k : ℕ) → i ≡ suc (k * 2) → k < length bytes
+    → get_or (nibbles bytes) i 0 ≡ second_nibble (get_or bytes k 0)
 nibble_odd [] i k e h = absurd (not-suc-le-zero h)
 nibble_odd (b ∷ bytes) i zero e h = ap (λ (n : ℕ). get_or (nibbles (b ∷ bytes)) n 0) e
 nibble_odd (b ∷ bytes) i (suc k) e h =
@@ -184,7 +185,8 @@ module _ (sample : History → Code → ℤ) where
         ≡ decoded_history sample cs (history_after sample h (take (min 14 m) (frame_codes cs (take 8 bytes)))) (drop 8 bytes) (m - 14)
     history_off =
         ap (history_after sample h) first
-        ∙ history_append h (take (min 14 m) (frame_codes cs (take 8 bytes))) (take (m - 14) (codes_of (frames_of (m - 14)) cs (drop 8 bytes)))
+        ∙ history_append h (take (min 14 m) (frame_codes cs (take 8 bytes)))
+        (take (m - 14) (codes_of (frames_of (m - 14)) cs (drop 8 bytes)))
 
   -- a decode makes as many samples as were asked for
   pub decoded_long :

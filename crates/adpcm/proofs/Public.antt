@@ -163,7 +163,8 @@ code_at (suc f) cs bytes n d l h =
 -- ---- samples by the index
 
 nibble_small : (bytes : List ℕ) (n : ℕ) → ((i : ℕ) → get_or bytes i 0 < 256) → nibble bytes n < 16
-nibble_small bytes n small = go (eqb (n % 14 % 2) 0) (get_or bytes (8 * (n / 14) + 1 + n % 14 / 2) 0) (small (8 * (n / 14) + 1 + n % 14 / 2))
+nibble_small bytes n small =
+    go (eqb (n % 14 % 2) 0) (get_or bytes (8 * (n / 14) + 1 + n % 14 / 2) 0) (small (8 * (n / 14) + 1 + n % 14 / 2))
   where
     go : (t : Bool) (b : ℕ) → b < 256 → cond t (b / 16) (b % 16) < 16
     go true b h = omega arith
@@ -200,7 +201,8 @@ module _ (cs : List ℤ) (h : History) (bytes : List ℕ) (count : ℕ) (small :
   long = length-take-le count (codes_of (frames_of count) cs bytes) (omega (arith, codes_long (frames_of count) cs bytes whole))
 
   code_is : (n : ℕ) → n < count → get_or codes n none ≡ read cs bytes n
-  code_is n l = get_or-take count (codes_of (frames_of count) cs bytes) n none l ∙ code_at (frames_of count) cs bytes n none whole (omega arith)
+  code_is n l = get_or-take count (codes_of (frames_of count) cs bytes) n none l
+      ∙ code_at (frames_of count) cs bytes n none whole (omega arith)
 
   same_history : (n : ℕ) → n ≤ count → history_after sample_of h (take n codes) ≡ public_history cs h bytes n
   same_history zero l = refl

@@ -1,6 +1,7 @@
 -- Module 2 of document 01: the coding. Frames of eight bytes, a header and 14 nibbles, each nibble with its frame's numbers the code of
 -- one sample. Assumes nothing: these are definitions.
-use Rattle.std.specs.Prelude.{ℕ, zero, suc, ◌+◌, ◌-◌, ◌*◌, ◌/◌, ◌%◌, ◌^◌, cond, List, [], ◌∷◌, ◌++◌, map, ltb, take, drop, get_or, ℤ, pos, negsuc, ◌+ℤ◌, ◌*ℤ◌}
+use Rattle.std.specs.Prelude.{ℕ, zero, suc, ◌+◌, ◌-◌, ◌*◌, ◌/◌, ◌%◌, ◌^◌, cond, List, [], ◌∷◌, ◌++◌, map, ltb, take, drop, get_or, ℤ, pos}
+use Rattle.std.specs.Prelude.{negsuc, ◌+ℤ◌, ◌*ℤ◌}
 use Rattle.adpcm.specs.declared.History.{History}
 
 -- what one sample is coded as: the exponent of its scale, the two coefficients of its predictor, and its nibble

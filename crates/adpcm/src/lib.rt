@@ -1,7 +1,8 @@
 // Module 2, the ADPCM decoder. `decode_adpcm` takes bytes, a count of samples, 16 coefficients, a history and an output, for any values and
 // lengths. It refuses with number 9, and leaves history and output, where the count is over 65,536, the bytes are not the count's whole
 // frames, or the output is too short; else it fills the first places of the output and leaves the last two samples in the history. Frames
-// of eight bytes are handed on as parts of the bytes, and the part of the output that a frame fills is lent to it.
+// of eight bytes are handed on as parts of the bytes, and the part of the output that a frame fills is lent to it. `bytes_of` says how many
+// bytes a count's whole frames are.
 #![tactic(auto)]
 
 ghost use Rattle.std.specs.Prelude.{◌≡◌, ◌++◌, ◌*◌, ◌/◌, ◌%◌, ◌^◌, ◌+◌, ◌≤◌, ◌<◌, length, take, drop, get_or, pos};
@@ -16,14 +17,21 @@ use numbers::whole::{clamped, product, wrapped};
 use refusals::Refusal;
 
 // A frame has a header and two nibbles a byte, one for each sample.
-const FRAME_BYTES: usize = 8;
+pub const FRAME_BYTES: usize = 8;
 
-const FRAME_SAMPLES: usize = 14;
+pub const FRAME_SAMPLES: usize = 14;
 
 const MOST_SAMPLES: usize = 65536;
 
+// How many bytes hold so many samples: whole frames, of which the last may not be full.
+pub fn bytes_of(samples: usize) -> usize
+    ensures { result ≡ frames_of samples * frame_bytes }
+{
+    samples.div_ceil(FRAME_SAMPLES) * FRAME_BYTES
+}
+
 // The last two samples, the newer first, which the next ones follow on from.
-#[derive(Clone, Copy)]
+#[derive(Clone, Copy, Default)]
 pub struct History {
     pub yn1: i16,
     pub yn2: i16,
@@ -160,25 +168,19 @@ fn decode_frame(
     }
 }
 
-// Decodes all frames into the first places of `samples`, each into its part by index, as `chunks_mut` would.
-fn decode_all(
-    data: &[u8],
-    count: usize,
-    coefficients: &[i16; 16],
-    history: &mut History,
-    samples: &mut [i16],
-)
-    requires data_len { length «data».now ≡ frames_of count * frame_bytes }
-    requires count_in_bounds { count ≤ length samples.old }
-    requires count_le_most_samples { count ≤ most_samples }
+// Decodes as many samples as `samples` holds from the bytes of their frames. Each frame's part of them goes by index, since of `chunks_mut`
+// no proof knows what the slice ends as.
+fn decode_all(data: &[u8], coefficients: &[i16; 16], history: &mut History, samples: &mut [i16])
+    requires { length «data».now ≡ frames_of (length samples.old) * frame_bytes }
     ensures samples { samples.new ≡
-        decoded_samples sample_of coefficients.now history.old «data».now count ++ drop count samples.old }
-    ensures history { history.new ≡ decoded_history sample_of coefficients.now history.old «data».now count }
+        decoded_samples sample_of coefficients.now history.old «data».now (length samples.old) }
+    ensures history { history.new ≡
+        decoded_history sample_of coefficients.now history.old «data».now (length samples.old) }
 {
     let (frames, _) = data.as_chunks::<FRAME_BYTES>();
     for (i, frame) in frames.iter().enumerate() {
         let start = i * FRAME_SAMPLES;
-        let end = (start + FRAME_SAMPLES).min(count);
+        let end = (start + FRAME_SAMPLES).min(samples.len());
         decode_frame(frame, coefficients, history, &mut samples[start..end]);
     }
 }
@@ -198,12 +200,9 @@ pub fn decode_adpcm(
     ensures output { samples.new ≡
         decode_output coefficients.now history.old «data».now count samples.old }
 {
-    if count > MOST_SAMPLES
-        || data.len() != count.div_ceil(FRAME_SAMPLES) * FRAME_BYTES
-        || samples.len() < count
-    {
+    if count > MOST_SAMPLES || data.len() != bytes_of(count) || samples.len() < count {
         return Err(Refusal::Decode);
     }
-    decode_all(data, count, coefficients, history, samples);
+    decode_all(data, coefficients, history, &mut samples[..count]);
     Ok(())
 }

@@ -12,39 +12,35 @@ use borrow.Author.Tests.{ltb-false}
 use Rattle.std.specs.Prelude.{Result, Ok, Err}
 use Rattle.arrayvec.specs.ArrayVec.{ArrayVec}
 use Rattle.refusals.specs.declared.Refusal.{Refusal as Reason}
-use Rattle.refusals.specs.Numbers.{number, number_of as code_of}
-use Rattle.refusals.proofs.Numbers.{positive}
+use Rattle.refusals.specs.Numbers.{number}
 use Rattle.lists.specs.Some.{some}
 use Rattle.lists.proofs.Bools.{passed}
 use Rattle.voice.specs.Blank.{default_voice}
 use Rattle.voice.specs.Malformed.{malformed, WellFormed}
 use Rattle.voice.specs.declared.record.Voice.{Voice}
 use Rattle.stems.specs.Alone.{leaves_alone}
-use Rattle.stems.specs.Call.{second_read, answer, lengths, or_else, whole_number, alone_number, no_mixes}
-use Rattle.stems.specs.Memory.{Memory, Lent, lane_length}
+use Rattle.stems.specs.Call.{Refusal, second_read, answer, lengths, or_else, whole_number, alone_number}
+use Rattle.stems.specs.Memory.{Lent, lane_length}
 use Rattle.stems.specs.Whole.{refusals, refused_of}
 use Rattle.stems.specs.declared.Fixed.{Fixed}
 use Rattle.stems.proofs.Mixes.{mixes_alone}
 use Rattle.stems.proofs.Shape.{neither}
-use Rattle.calls.specs.Refused.{refusals_of, given}
+use Rattle.calls.specs.Refused.{refusals_of}
 use Rattle.calls.specs.Begin.{second_of, lengths_code}
 use Rattle.calls.specs.Lent.{lent}
 use Rattle.calls.specs.declared.refused.RefusedVoice.{RefusedVoice}
-use Rattle.turns.specs.Turns.{State}
+use Rattle.turns.specs.Turns.{State, beginning}
 use Rattle.alone.specs.Inner.{ticked}
-use Rattle.turns.proofs.Begun.{first_not_0, each_formed, all_voices_lem}
+use Rattle.turns.proofs.Begun.{each_formed, all_voices_lem}
+use Rattle.turns.proofs.Contract.{no_refusals, refused_by_lengths, refused_later, served}
 use Rattle.turns.proofs.Turns.{memory_of, turn_memory, turn_mixes, turn_carried}
 use Rattle.alone.specs.TickVoice.{left, refused, Ensured}
 
+-- of both calls: `leaves` and `leaves_alone` are two definitions, and a lemma over both would say no more than these lines
 stays : (n : ℕ) (fx : Fixed) (v : ℕ) (x : Lent) → (n ≡ 0 → ⊥) → leaves_alone n fx v x ≡ x
 unfolding leaves_alone
 stays zero fx v x h = absurd (h refl)
 stays (suc n) fx v x h = refl
-
-none_refused : (n : ℕ) (fx : Fixed) (v : ℕ) (x : Lent) → (n ≡ 0 → ⊥) → refusals n fx x (v ∷ []) ≡ []
-unfolding refusals
-none_refused zero fx v x h = absurd (h refl)
-none_refused (suc n) fx v x h = refl
 
 in_order : (a b c : ℕ) → or_else (or_else a b) c ≡ or_else a (or_else b c)
 in_order zero b c = refl
@@ -63,38 +59,28 @@ module _ (fx : Fixed) (v : ℕ) (r0 r1 w : List ℕ) (ys : List Voice) (lanes mi
   abbrev late : ℕ
   late = or_else (cond bad 7 0) (cond (ltb 23 v) 10 0)
 
-  -- what is ensured
-  abbrev pub Leaves : Result (ArrayVec RefusedVoice) Reason → List Voice → List ℕ → List ℕ → List ℤ → List ℤ → Type 0
-  Leaves r zs s0 s1 ls ms = Ensured fx v x r (lent s0 s1 w zs ls ms)
-
   number_is : alone_number fx v x ≡ or_else code late
   unfolding alone_number whole_number lengths
   number_is = in_order code (cond bad 7 0) (cond (ltb 23 v) 10 0)
 
   -- ---- refused as a whole
 
-  refused_with : (e : Reason) → number e ≡ alone_number fx v x → (r : Result (ArrayVec RefusedVoice) Reason) → r ≡ Err e
-      → Leaves r ys r0 r1 lanes mixes
-  refused_with e is r at =
-      let not0 : alone_number fx v x ≡ 0 → ⊥ = λ z. omega (arith, positive e, is, z) in
-      let same : x ≡ left fx v x = sym (stays (alone_number fx v x) fx v x not0) in (
-        ap code_of at ∙ is,
-        ap (λ (y : Lent). y.memory.records) same,
-        ap (λ (y : Lent). y.memory.region0) same,
-        ap (λ (y : Lent). y.memory.region1) same,
-        ap (λ (y : Lent). y.memory.lanes) same,
-        ap (λ (y : Lent). y.mixes) same,
-        ap given at ∙ sym (none_refused (alone_number fx v x) fx v x not0),
-      )
+  -- what holds of the list
+  abbrev Lists : List Refusal → Type 0
+  Lists rs = rs ≡ refused fx v x
 
-  pub refused_call : (e : Reason) → number e ≡ code → (r : Result (ArrayVec RefusedVoice) Reason) → r ≡ Err e
-      → Leaves r ys r0 r1 lanes mixes
-  refused_call e is =
-      refused_with e (is ∙ sym (number_is ∙ first_not_0 code late (λ z. omega (arith, positive e, is, z))))
+  untouched : (alone_number fx v x ≡ 0 → ⊥) → x ≡ left fx v x
+  untouched h = sym (stays (alone_number fx v x) fx v x h)
+
+  none_listed : (alone_number fx v x ≡ 0 → ⊥) → Lists []
+  none_listed h = sym (no_refusals (alone_number fx v x) fx x (v ∷ []) h)
+
+  pub refused_call : (e : Reason) → number e ≡ code → (r : Result (ArrayVec RefusedVoice) Reason) → r ≡ Err e → Ensured fx v x r x
+  refused_call = refused_by_lengths (alone_number fx v x) (left fx v x) Lists x untouched none_listed code late number_is
 
   pub late_call : (e : Reason) → code ≡ 0 → number e ≡ late → (r : Result (ArrayVec RefusedVoice) Reason) → r ≡ Err e
-      → Leaves r ys r0 r1 lanes mixes
-  late_call e zero_is is = refused_with e (is ∙ sym (number_is ∙ ap (λ (n : ℕ). or_else n late) zero_is))
+      → Ensured fx v x r x
+  late_call = refused_later (alone_number fx v x) (left fx v x) Lists x untouched none_listed code late number_is
 
   -- ---- served
 
@@ -115,7 +101,7 @@ module _ (fx : Fixed) (v : ℕ) (r0 r1 w : List ℕ) (ys : List Voice) (lanes mi
     second = second_of fx r0 r1
 
     abbrev first : State
-    first = record { voices = ys; region0 = r0; region1 = r1; lanes = lanes; mixes = no_mixes; refused = [] }
+    first = beginning ys r0 r1 lanes
 
     abbrev last : State
     last = ticked fx w second v ys r0 r1 lanes
@@ -143,13 +129,5 @@ module _ (fx : Fixed) (v : ℕ) (r0 r1 w : List ℕ) (ys : List Voice) (lanes mi
 
     pub served_call : (refused : ArrayVec RefusedVoice) (zs : List Voice) (s0 s1 : List ℕ) (ls ms : List ℤ)
         → refusals_of refused.items ≡ last.refused → zs ≡ last.voices → s0 ≡ last.region0 → s1 ≡ last.region1 → ls ≡ last.lanes
-        → ms ≡ last.mixes → Leaves (Ok refused) zs s0 s1 ls ms
-    served_call refused zs s0 s1 ls ms er ez e0 e1 el em = (
-      sym number_0,
-      ez ∙ ap (λ (y : Memory). y.records) memory_is,
-      e0 ∙ ap (λ (y : Memory). y.region0) memory_is,
-      e1 ∙ ap (λ (y : Memory). y.region1) memory_is,
-      el ∙ ap (λ (y : Memory). y.lanes) memory_is,
-      em ∙ mixes_are,
-      er ∙ refused_is,
-    )
+        → ms ≡ last.mixes → Ensured fx v x (Ok refused) (lent s0 s1 w zs ls ms)
+    served_call = served (alone_number fx v x) (left fx v x) Lists fx w last memory_is mixes_are refused_is number_0

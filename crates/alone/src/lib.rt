@@ -16,7 +16,7 @@ ghost use Rattle.alone.specs.Inner.{ticked};
 ghost use Rattle.alone.specs.TickVoice.{Ensured};
 
 use calls::begin::begin;
-use calls::refusal::{accept_alone, accept_lengths};
+use calls::refusal::{accept_alone, accept_lent};
 use calls::refused::{Refused, note};
 use numbers::sizes::MIXES;
 use refusals::Refusal;
@@ -24,7 +24,7 @@ use stems::Fixed;
 use turns::serve_at;
 use voice::record::Voice;
 
-// Begins the call, and gives this voice its turn.
+// Begins the call, and gives this voice its turn. Memory is lent thing by thing, as `turns` takes it.
 fn serve_alone(
     voices: &mut [Voice],
     voice: usize,
@@ -77,15 +77,7 @@ pub fn tick_voice(
         result (lent region0.new region1.new window.now
         voices.new lanes.new mixes.new) }
 {
-    accept_lengths(
-        fixed,
-        voices.len(),
-        region0.len(),
-        region1.len(),
-        window.len(),
-        lanes.len(),
-        mixes.len(),
-    )?;
+    accept_lent(fixed, voices, region0, region1, window, lanes, mixes)?;
     accept_alone(voices, lanes.len(), voice)?;
     let mixes = mixes.as_mut_array::<MIXES>().unwrap();
     Ok(serve_alone(voices, voice, fixed, region0, region1, window, lanes, mixes))

@@ -19,7 +19,7 @@ use Rattle.stems.specs.Memory.{VOICES, lane_length}
 use Rattle.stems.specs.Call.{Lengths, or_else, wrong_voices, lengths_number}
 
 -- a number, or the next where it is 0
-first_one : (n next : ℕ) → (n ≡ 0 → ⊥) → or_else n next ≡ n
+pub first_one : (n next : ℕ) → (n ≡ 0 → ⊥) → or_else n next ≡ n
 first_one zero next h = absurd (h refl)
 first_one (suc n) next h = refl
 

@@ -25,7 +25,8 @@ in_turn (step ∷ steps) v = in_turn steps (step v)
 -- position is read with the embedded entry, which alone has one. In three runs: what plays, how it sounds, and what the entries will be.
 module _ (bytes : List ℕ) where
   abbrev pub play_steps : List (Voice → Voice)
-  play_steps = reset_step bytes ∷ partial_reset_step bytes ∷ enable_step bytes ∷ sync_step bytes ∷ rate_step bytes ∷ interpolation_step bytes ∷ []
+  play_steps =
+      reset_step bytes ∷ partial_reset_step bytes ∷ enable_step bytes ∷ sync_step bytes ∷ rate_step bytes ∷ interpolation_step bytes ∷ []
 
   abbrev pub sound_steps : List ℕ → List (Voice → Voice)
   sound_steps coefficients =
@@ -44,7 +45,7 @@ module _ (bytes coefficients : List ℕ) (v : Voice) where
 
   -- "all entries the flags would add", with the format and the channels that the steps leave
   unfoldable pub to_add : List Entry
-  to_add = added bytes settled.kinds.format settled.stereo
+  to_add = added bytes settled.format settled.stereo
 
   -- "The count for 20 starts after clearing by RESET or PARTIAL_RESET": those are steps
   unfoldable pub refusal : ℕ → ℕ

@@ -95,7 +95,7 @@ pub fn configure(
         return Ok(v);
     }
     let settled = settle(v, bytes, coefficients);
-    let entries = to_add(bytes, settled.kinds.format, settled.stereo);
+    let entries = to_add(bytes, settled.format, settled.stereo);
     accept_entries(settled.queued, entries.as_slice(), lane)?;
     clear_served(bytes);
     Ok(push_entries(settled, entries.as_slice()))

@@ -30,7 +30,8 @@ use Rattle.voice.proofs.Formed.{not_malformed_formed, formed_not_malformed, defa
 use Rattle.settings.specs.Dirty.{flag, FORMAT, MONO_OR_STEREO, ADPCM_COEFFICIENTS, PARTIAL_EMBEDDED_BUFFER, PARTIAL_RESET, ENABLE}
 use Rattle.settings.specs.Dirty.{INTERPOLATION, RATE_MULTIPLIER, FILTERS_ENABLED, SIMPLE_FILTER, BIQUAD_FILTER, GAIN}
 use Rattle.settings.specs.Dirty.{SYNC_COUNT, RESET, EMBEDDED_BUFFER}
-use Rattle.settings.specs.Steps.{half, reset_step, partial_reset_step, enable_step, sync_step, rate_step, interpolation_step, coefficients_step}
+use Rattle.settings.specs.Steps.{half, reset_step, partial_reset_step, enable_step, sync_step, rate_step, interpolation_step}
+use Rattle.settings.specs.Steps.{coefficients_step}
 use Rattle.settings.specs.Steps.{gain_step, enabled_filters, simple_filters, biquad_filters, filters_step, format_step, stereo_step}
 use Rattle.settings.specs.Steps.{lengthen_step}
 use Rattle.config_laws.specs.Laws.{Keeps, KeepsFormed}

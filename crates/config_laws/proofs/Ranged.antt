@@ -30,7 +30,8 @@ use Rattle.filters.specs.declared.state.BiquadFilter.{BiquadFilter}
 use Rattle.filters.specs.declared.state.Filters.{Filters}
 use Rattle.filters.specs.declared.state.SimpleFilter.{SimpleFilter}
 use Rattle.voice.specs.Blank.{limit, blank_history, default_voice}
-use Rattle.voice.specs.Range.{is_byte, unsigned, signed, history_in_range, entry_tests, entry_in_range, simple_in32, biquad_in32, range_tests}
+use Rattle.voice.specs.Range.{is_byte, unsigned, signed, history_in_range, entry_tests, entry_in_range, simple_in32, biquad_in32}
+use Rattle.voice.specs.Range.{range_tests}
 use Rattle.voice.specs.Range.{in_range}
 use Rattle.voice.specs.Set.{set_entry_length}
 use Rattle.voice.specs.declared.record.Entry.{Entry}
@@ -41,7 +42,8 @@ use Rattle.voice.proofs.Range.{biquad_in_32, zero_single, one_double, default_in
 use Rattle.settings.specs.Dirty.{flag, FORMAT, MONO_OR_STEREO, ADPCM_COEFFICIENTS, PARTIAL_EMBEDDED_BUFFER, PARTIAL_RESET, ENABLE}
 use Rattle.settings.specs.Dirty.{INTERPOLATION, RATE_MULTIPLIER, PLAY_POSITION, FILTERS_ENABLED, SIMPLE_FILTER, BIQUAD_FILTER}
 use Rattle.settings.specs.Dirty.{GAIN, SYNC_COUNT, RESET, EMBEDDED_BUFFER}
-use Rattle.settings.specs.Steps.{half, reset_step, partial_reset_step, enable_step, sync_step, rate_step, interpolation_step, coefficients_step}
+use Rattle.settings.specs.Steps.{half, reset_step, partial_reset_step, enable_step, sync_step, rate_step, interpolation_step}
+use Rattle.settings.specs.Steps.{coefficients_step}
 use Rattle.settings.specs.Steps.{gain_step, enabled_filters, simple_filters, biquad_filters, filters_step, format_step, stereo_step}
 use Rattle.settings.specs.Steps.{lengthen_step}
 use Rattle.entries.specs.Entries.{history_at, position_in, embedded, slot_entry}
@@ -121,7 +123,8 @@ module _ (s : List ℕ) (bytes : every is_byte s ≡ true) where
   slot_read f t k =
       entry_of (slot_entry s f t k) (below_dsp32 (slot_at k + offset_of slot "ADDRESS")) (below_dsp32 (slot_at k + offset_of slot "LENGTH"))
       (below_16 (slot_at k + offset_of slot "BUFFER_ID"))
-      (history_read (not (eqb (get_or s (slot_at k + offset_of slot "HAS_ADPCM") 0) 0)) (slot_at k + offset_of slot "ADPCM_YN")) (omega arith)
+      (history_read (not (eqb (get_or s (slot_at k + offset_of slot "HAS_ADPCM") 0) 0)) (slot_at k + offset_of slot "ADPCM_YN"))
+      (omega arith)
 
 -- ---- the filters
 
@@ -330,7 +333,7 @@ module _ (bytes : List ℕ) where
     entry_range : (cs : List ℕ) (v : Voice) (e : Entry) → Memᴰ e (to_add bytes cs v) → entry_in_range e ≡ true
     unfolding to_add
     entry_range cs v e m =
-        let f = (settled bytes cs v).kinds.format in
+        let f = (settled bytes cs v).format in
         let t = (settled bytes cs v).stereo in
         all_added (λ (x : Entry). entry_in_range x ≡ true) bytes f t (embedded_read bytes b f t) (slot_read bytes b f t) e m
 

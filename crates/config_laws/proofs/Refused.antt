@@ -176,7 +176,7 @@ module _ (bytes : List ℕ) (clean : dirty_in bytes ≡ 0) where
     pub none_to_add : (cs : List ℕ) → to_add bytes cs v ≡ []
     unfolding to_add added
     none_to_add cs =
-        let f = (settled bytes cs v).kinds.format in
+        let f = (settled bytes cs v).format in
         let s = (settled bytes cs v).stereo in
         let first : embedded_entries bytes f s ≡ [] = cond_no _ _ (no_flag EMBEDDED_BUFFER) in
         let rest : cond (flag bytes BUFFER_QUEUE) (slots_entries bytes f s slot_count) [] ≡ [] = cond_no _ _ (no_flag BUFFER_QUEUE) in

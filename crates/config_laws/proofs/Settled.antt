@@ -17,7 +17,8 @@ use Rattle.voice.specs.declared.record.Format.TheVariants.{Pcm16}
 use Rattle.voice.specs.declared.record.Voice.{Voice}
 use Rattle.settings.specs.Dirty.{flag, FORMAT, MONO_OR_STEREO, ADPCM_COEFFICIENTS, PARTIAL_EMBEDDED_BUFFER, PARTIAL_RESET, ENABLE}
 use Rattle.settings.specs.Dirty.{INTERPOLATION, RATE_MULTIPLIER, BUFFER_QUEUE, GAIN, SYNC_COUNT, RESET, EMBEDDED_BUFFER}
-use Rattle.settings.specs.Steps.{format_in, stereo_in, reset_step, partial_reset_step, enable_step, sync_step, rate_step, interpolation_step}
+use Rattle.settings.specs.Steps.{format_in, stereo_in, reset_step, partial_reset_step, enable_step, sync_step, rate_step}
+use Rattle.settings.specs.Steps.{interpolation_step}
 use Rattle.settings.specs.Steps.{coefficients_step, gain_step, filters_step, format_step, stereo_step, lengthen_step}
 use Rattle.entries.specs.Entries.{slot_count, slot_adds, embedded, slot_entry, slots_entries, added}
 use Rattle.config_laws.specs.Laws.{Keeps, kept, format_after, stereo_after, EntriesTake, Taken, EachTakes}
@@ -26,7 +27,7 @@ use Rattle.config_laws.proofs.Kept.{in_turn_lem}
 
 -- what a record has of the four
 record Stands (f : Format) (s : Bool) (n : ℕ) (q : List Entry) (u : Voice) : Type 0 where
-  format : u.kinds.format ≡ f
+  format : u.format ≡ f
   stereo : u.stereo ≡ s
   queued : u.queued ≡ n
   queue : queued_in u ≡ q
@@ -36,7 +37,7 @@ module _ (bytes : List ℕ) (f : Format) (s : Bool) (n : ℕ) (q : List Entry) w
   S u = Stands f s n q u
 
   -- a record that has the four of another
-  alike : (u w : Voice) → w.kinds.format ≡ u.kinds.format → w.stereo ≡ u.stereo → w.queued ≡ u.queued → w.queue ≡ u.queue
+  alike : (u w : Voice) → w.format ≡ u.format → w.stereo ≡ u.stereo → w.queued ≡ u.queued → w.queue ≡ u.queue
       → S u → S w
   alike u w a b c d p = record {
     format = a ∙ p.format;
@@ -84,7 +85,7 @@ module _ (bytes : List ℕ) (f : Format) (s : Bool) (n : ℕ) (q : List Entry) w
   unfolding format_step
   format_stands u p = by (flag bytes FORMAT || flag bytes EMBEDDED_BUFFER) _ refl refl refl refl
     where
-      by : (b : Bool) (w : Voice) → w.kinds.format ≡ format_in bytes → w.stereo ≡ u.stereo → w.queued ≡ u.queued → w.queue ≡ u.queue
+      by : (b : Bool) (w : Voice) → w.format ≡ format_in bytes → w.stereo ≡ u.stereo → w.queued ≡ u.queued → w.queue ≡ u.queue
           → Stands (cond b (format_in bytes) f) s n q (cond b w u)
       by true w a b c d = record { format = a; stereo = b ∙ p.stereo; queued = c ∙ p.queued; queue = (λ j. take (c j) (d j)) ∙ p.queue }
       by false w a b c d = p
@@ -96,7 +97,7 @@ module _ (bytes : List ℕ) (f : Format) (s : Bool) (n : ℕ) (q : List Entry) w
   unfolding stereo_step
   stereo_stands u p = by (flag bytes MONO_OR_STEREO || flag bytes EMBEDDED_BUFFER) _ refl refl refl refl
     where
-      by : (b : Bool) (w : Voice) → w.kinds.format ≡ u.kinds.format → w.stereo ≡ stereo_in bytes → w.queued ≡ u.queued
+      by : (b : Bool) (w : Voice) → w.format ≡ u.format → w.stereo ≡ stereo_in bytes → w.queued ≡ u.queued
           → w.queue ≡ u.queue → Stands f (cond b (stereo_in bytes) s) n q (cond b w u)
       by true w a b c d = record { format = a ∙ p.format; stereo = b; queued = c ∙ p.queued; queue = (λ j. take (c j) (d j)) ∙ p.queue }
       by false w a b c d = p
@@ -104,7 +105,7 @@ module _ (bytes : List ℕ) (f : Format) (s : Bool) (n : ℕ) (q : List Entry) w
 module _ (bytes : List ℕ) (v : Voice) where
   -- after the two resets
   abbrev first_format : Format
-  first_format = cond (flag bytes RESET) Pcm16 v.kinds.format
+  first_format = cond (flag bytes RESET) Pcm16 v.format
 
   abbrev first_stereo : Bool
   first_stereo = cond (flag bytes RESET) false v.stereo
@@ -117,7 +118,7 @@ module _ (bytes : List ℕ) (v : Voice) where
   resets_stand = by (flag bytes RESET) (flag bytes PARTIAL_RESET)
     where
       by : (r p : Bool)
-          → Stands (cond r Pcm16 v.kinds.format) (cond r false v.stereo) (cond (r || p) 0 v.queued)
+          → Stands (cond r Pcm16 v.format) (cond r false v.stereo) (cond (r || p) 0 v.queued)
           (take (cond (r || p) 0 v.queued) v.queue)
           (cond p (set_voice_queued 0 (set_voice_ran_out_at_frame_end false (cond r default_voice v))) (cond r default_voice v))
       by true true = record { format = refl; stereo = refl; queued = refl; queue = refl }
@@ -196,5 +197,5 @@ unfolding to_add embedded slot_entry
 each_takes bytes cs v e m =
     let u = settled bytes cs v in
     let s = settled_stands bytes v cs in
-    all_added (λ x. Taken bytes v x) bytes u.kinds.format u.stereo (record { format = s.format; stereo = s.stereo })
+    all_added (λ x. Taken bytes v x) bytes u.format u.stereo (record { format = s.format; stereo = s.stereo })
     (λ k. record { format = s.format; stereo = s.stereo }) e m

@@ -103,7 +103,7 @@ KeepsRange =
 abbrev pub format_after : List ℕ → Voice → Format
 format_after bytes v =
     cond (flag bytes FORMAT || flag bytes EMBEDDED_BUFFER) (format_in bytes)
-    (cond (flag bytes RESET) Pcm16 v.kinds.format)
+    (cond (flag bytes RESET) Pcm16 v.format)
 
 -- the channels, in the same way
 abbrev pub stereo_after : List ℕ → Voice → Bool

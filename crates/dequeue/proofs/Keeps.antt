@@ -185,7 +185,8 @@ module _ (L : ℕ) (v : Voice) (w : WellFormed L v) (long : length v.queue ≡ p
         by : (b : Bool) → decodable window base (entry_at place v) ≡ b
             → length (cond b (decoded_lane (adpcm_in window base (entry_at place v)) n u lane) lane) ≡ length lane
         by true d =
-            let made = decoded_long sample_of u.coefficients u.history (adpcm_in window base (entry_at place v)) n (decodable_whole window base (entry_at place v) d) in
+            let made = decoded_long sample_of u.coefficients u.history (adpcm_in window base (entry_at place v)) n
+            (decodable_whole window base (entry_at place v) d) in
             let fit = fits d in
             let samples = decoded_samples sample_of u.coefficients u.history (adpcm_in window base (entry_at place v)) n in
             let all = length-append samples (drop n lane) in

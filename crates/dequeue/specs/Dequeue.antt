@@ -1,5 +1,6 @@
 -- The start of the next entry of a voice's queue. Assumes nothing: these are definitions.
-use Rattle.std.specs.Prelude.{Bool, true, false, not, ◌&&◌, cond, List, ◌++◌, ℕ, ◌-◌, ◌*◌, ◌/◌, min, ℤ, length, get_or, set, drop, Option, None, Some}
+use Rattle.std.specs.Prelude.{Bool, true, false, not, ◌&&◌, cond, List, ◌++◌, ℕ, ◌-◌, ◌*◌, ◌/◌, min, ℤ, length, get_or, set, drop, Option}
+use Rattle.std.specs.Prelude.{None, Some}
 use Rattle.numbers.specs.Literals.{+0}
 use Rattle.window.specs.Window.{present_in, look_up}
 use Rattle.adpcm.specs.Sizes.{frame_bytes}

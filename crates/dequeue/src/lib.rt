@@ -81,7 +81,7 @@ pub fn align(address: u32) -> u32
 fn bytes_of(e: Entry) -> u32
     ensures { result ≡ frames_of e.length * frame_bytes }
 {
-    e.length.div_ceil(14) * 8
+    adpcm::bytes_of(e.length as usize) as u32
 }
 
 // Whether an entry is ADPCM and all of its bytes are present.
@@ -112,7 +112,7 @@ fn decode(v: Voice, bytes: &[u8], count: u32, lane: &mut [i16]) -> Voice
 #[tactic(auto, unfolding(crate::specs::Dequeue::prepared_voice, crate::specs::Dequeue::prepared_lane))]
 fn prepare(v: Voice, e: Entry, window: Window<'_>, lane: &mut [i16]) -> Voice
     requires entry_fits { too_long (length lane.old) e ≡ false }
-    requires lane_len_bound { length lane.old ≤ most_samples }
+    requires short_lane { length lane.old ≤ most_samples }
     ensures record { result ≡ prepared_voice window.entry.bytes.now window.entry.base e v }
     ensures lane { lane.new ≡ prepared_lane window.entry.bytes.now window.entry.base e v lane.old }
 {
@@ -132,7 +132,7 @@ fn prepare(v: Voice, e: Entry, window: Window<'_>, lane: &mut [i16]) -> Voice
 pub fn dequeue(v: Voice, window: Window<'_>, lane: &mut [i16]) -> Option<Voice>
     requires queued_le_limit { v.queued ≤ limit }
     requires entries_fit { any_too_long (length lane.old) (queued_in v) ≡ false }
-    requires lane_len_bound { length lane.old ≤ most_samples }
+    requires short_lane { length lane.old ≤ most_samples }
     ensures found { is_some result ≡ (dequeued window.entry.bytes.now window.entry.base v).found }
     ensures record { unwrap_or result v ≡ (dequeued window.entry.bytes.now window.entry.base v).voice }
     ensures lane { lane.new ≡ dequeued_lane window.entry.bytes.now window.entry.base v lane.old }

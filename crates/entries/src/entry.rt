@@ -9,7 +9,7 @@ use fields::{config, slot};
 use little::{read_dsp32, read16, signed_at};
 use settings::dirty;
 use settings::dirty::flag;
-use voice::blank::{blank_history, kept_if};
+use voice::blank::kept_if;
 use voice::record::{Entry, Format};
 
 // Two signed halves.
@@ -92,7 +92,7 @@ impl<'a> Adding<'a> {
             adpcm: kept_if(
                 has_adpcm,
                 history_at(bytes, config::ADPCM_YN),
-                blank_history(),
+                History::default(),
             ),
             from_queue: false,
             play_position: position_in(bytes),
@@ -119,7 +119,7 @@ impl<'a> Adding<'a> {
             adpcm: kept_if(
                 has_adpcm,
                 history_at(bytes, at + slot::ADPCM_YN),
-                blank_history(),
+                History::default(),
             ),
             from_queue: true,
             play_position: 0,

@@ -114,9 +114,9 @@ pub extern "C" fn yinzhor_mixer_tick(
     state: &mut [u8],
     frame: &mut [u8],
 ) -> u8
-    requires offsets_len { length offsets.now ≡ 28 }
-    requires state_len { length state.old ≡ 16 }
-    requires frame_len { length frame.old ≡ 640 }
+    requires seven_offsets { length offsets.now ≡ 28 }
+    requires whole_state { length state.old ≡ 16 }
+    requires whole_frame { length frame.old ≡ 640 }
 {
     let given = mixer_forms::state_of(state.as_array().unwrap());
     let l = mixer_forms::layout_of(offsets.as_array().unwrap());

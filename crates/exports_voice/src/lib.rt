@@ -22,8 +22,8 @@ pub extern "C" fn yinzhor_configure(
     configuration: &mut [u8],
     coefficients: &[u8],
 ) -> u8
-    requires configuration_len { length configuration.old ≡ 192 }
-    requires coefficients_len { length coefficients.now ≡ 32 }
+    requires whole_configuration { length configuration.old ≡ 192 }
+    requires all_coefficients { length coefficients.now ≡ 32 }
 {
     answered(voice_jobs::configuration::configure(
         lane,
@@ -70,10 +70,10 @@ pub extern "C" fn yinzhor_serve(
     mixes: &mut [i32],
     report: &mut [u8],
 ) -> u8
-    requires configuration_len { length configuration.old ≡ 192 }
-    requires coefficients_len { length coefficients.now ≡ 32 }
-    requires mixes_len { length mixes.old ≡ 1920 }
-    requires report_len { length report.old ≡ 12 }
+    requires whole_configuration { length configuration.old ≡ 192 }
+    requires all_coefficients { length coefficients.now ≡ 32 }
+    requires all_mixes { length mixes.old ≡ 1920 }
+    requires whole_status { length report.old ≡ 12 }
 {
     let window = Window {
         bytes: window,

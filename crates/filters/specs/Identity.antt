@@ -20,4 +20,5 @@ AllFit samples = (i : ℕ) → i < length samples → SFits w16 (get_or samples 
 
 -- such filters give such samples themselves
 abbrev pub DefaultsAreIdentities : Type 0
-DefaultsAreIdentities = (channel : ℕ) (f : Filters) (samples : List ℤ) → Default f → AllFit samples → passed_from channel f samples ≡ samples
+DefaultsAreIdentities =
+    (channel : ℕ) (f : Filters) (samples : List ℤ) → Default f → AllFit samples → passed_from channel f samples ≡ samples

@@ -13,7 +13,7 @@ use window::Window;
 // Reads the record and writes it back as it is: what `serve` does besides serving.
 pub fn reread(lane: usize, bytes: &mut [u8; RECORD]) -> Result<(), Refusal> {
     let v = formed_record(bytes, lane)?;
-    put_record(v, bytes);
+    put_record(&v, bytes);
     Ok(())
 }
 
@@ -30,6 +30,6 @@ pub fn serve(
 ) -> Result<(), Refusal> {
     let v = served_record(bytes, lane.len())?;
     let after = served(v, lane, configuration, coefficients, window, mixes, report);
-    put_record(after.unwrap_or(v), bytes);
+    put_record(&after.unwrap_or(v), bytes);
     after.map(|_| ())
 }

@@ -2,13 +2,10 @@
 // The answer has that many samples and the history after them, signed halves.
 ghost use Rattle.std.specs.Prelude.{◌≤◌, length, IfSome};
 
-use crate::sizes::ROOM;
+use crate::sizes::{HALVES, ROOM};
 use listing::input;
 use listing::sizes::HEADER;
 use replaying::put_each;
-
-// All the halves that an answer can have.
-const HALVES: usize = 65537;
 
 pub fn answer<'a>(part: &[u8], out: &'a mut [u8; ROOM]) -> Option<&'a [u8]>
     ensures { IfSome result (λ s. length s.now ≤ 131074) }

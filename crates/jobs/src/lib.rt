@@ -14,34 +14,19 @@ use sizes::ROOM;
 
 // What a job asks for.
 #[derive(Clone, Copy)]
-pub enum Kind {
+enum Kind {
     // a call of a function on numbers alone (number.rt)
-    Number = 0,
+    Number,
     // an ADPCM decode (decode.rt)
-    Decode = 1,
+    Decode,
     // a decode listing (listed.rt)
-    Listing = 2,
+    Listing,
     // a call of the mixer (crate mixer_jobs)
-    Mixer = 3,
+    Mixer,
 }
 
-// A number that no kind has.
-#[derive(Clone, Copy)]
-pub struct NoKind;
-
-impl TryFrom<u32> for Kind {
-    type Error = NoKind;
-
-    fn try_from(number: u32) -> Result<Kind, NoKind> {
-        match number {
-            0 => Ok(Kind::Number),
-            1 => Ok(Kind::Decode),
-            2 => Ok(Kind::Listing),
-            3 => Ok(Kind::Mixer),
-            _ => Err(NoKind),
-        }
-    }
-}
+// The kinds, each at its number.
+const KINDS: [Kind; 4] = [Kind::Number, Kind::Decode, Kind::Listing, Kind::Mixer];
 
 // An answer put where the room begins.
 fn placed<'a>(answer: &[u8], out: &'a mut [u8; ROOM]) -> Option<&'a [u8]>
@@ -55,7 +40,7 @@ fn placed<'a>(answer: &[u8], out: &'a mut [u8; ROOM]) -> Option<&'a [u8]>
 pub fn answer<'a>(kind: u32, part: &[u8], out: &'a mut [u8; ROOM]) -> Option<&'a [u8]>
     ensures { IfSome result (λ s. length s.now ≤ 131074) }
 {
-    match Kind::try_from(kind).ok()? {
+    match KINDS.get(kind as usize)? {
         Kind::Number => placed(&number::answer(part)?, out),
         Kind::Decode => decode::answer(part, out),
         Kind::Listing => listed::answer(part, out),

@@ -30,9 +30,10 @@ fn make_frames(seed: u16, frames: &mut [u8]) {
 
 // Puts what an answer has of a listing.
 fn shown<'a>(text: &[u8], out: &'a mut [u8; ROOM]) -> Option<&'a [u8]>
+    requires { length text.now < 2 ^ 32 }
     ensures { IfSome result (λ s. length s.now ≤ 1032) }
 {
-    let words = [(text.len() & 0xFFFF_FFFF) as u32, sum(text, u32::from)];
+    let words = [text.len() as u32, sum(text, u32::from)];
     put_each(&words, out);
     let last = &text[text.len().saturating_sub(SHOWN)..];
     let end = 8 + last.len();
@@ -47,7 +48,7 @@ fn list<'a>(buffer: &[u8; INPUT_ROOM], got: usize, out: &'a mut [u8; ROOM]) -> O
 {
     let mut output = [0u8; OUTPUT_ROOM];
     let n = listing::list_read(buffer, got, &mut output);
-    shown(output.get(..n)?, out)
+    shown(&output[..n], out)
 }
 
 pub fn answer<'a>(part: &[u8], out: &'a mut [u8; ROOM]) -> Option<&'a [u8]>

@@ -1,5 +1,6 @@
 -- The digits of the definition are those that std's definition has, which appends the last digit too. Assumes nothing.
-use Rattle.std.proofs.Common.{◌≡◌, ℕ, suc, ◌+◌, ◌/◌, ◌^◌, ◌≤◌, ◌<◌, List, [], ◌∷◌, ◌++◌, length, ℤ, pos, negsuc, ap, ◌∙◌, sym, arith, SFits, to_z, of_z, to_z-of_z}
+use Rattle.std.proofs.Common.{◌≡◌, ℕ, suc, ◌+◌, ◌/◌, ◌^◌, ◌≤◌, ◌<◌, List, [], ◌∷◌, ◌++◌, length, ℤ, pos, negsuc, ap, ◌∙◌, sym, arith, SFits}
+use Rattle.std.proofs.Common.{to_z, of_z, to_z-of_z}
 use lib.Signed.{mag}
 use mir.Syntax.{w16}
 use Rattle.std.specs.Fmt as fmt

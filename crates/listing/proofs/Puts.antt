@@ -5,7 +5,7 @@ use Prim.Native.Nat.{ℕ, ◌+◌}
 use native.Mathlib.Omega.{arith}
 use lib.ListN.{length, length-append}
 use Rattle.lists.specs.Splice.{splice}
-use Rattle.lists.proofs.Splice.{splice_append, length_splice}
+use Rattle.lists.proofs.Splice.{splice_append}
 use Rattle.listing.specs.Text.{newline}
 use Rattle.listing.specs.Inner.{Put}
 
@@ -17,7 +17,8 @@ put_more {old} {first} {mid} {second} {new} {a} p q = record {
 }
 
 -- bytes stored at a place are the text that they are
-pub put_text : {old bytes text new : List ℕ} {a e : ℕ} → bytes ≡ text → new ≡ splice old a bytes → e ≡ a + length bytes → Put old a text new e
+pub put_text : {old bytes text new : List ℕ} {a e : ℕ}
+    → bytes ≡ text → new ≡ splice old a bytes → e ≡ a + length bytes → Put old a text new e
 put_text {old} {bytes} {text} {new} {a} {e} h p q =
     subst (λ (t : List ℕ). Put old a t new e) h (record { stored = p; after = q })
 
@@ -25,6 +26,3 @@ put_text {old} {bytes} {text} {new} {a} {e} h p q =
 pub put_row : {line left first right second : List ℕ} → line ≡ left ++ (right ++ newline) → left ≡ first → right ≡ second
     → line ≡ first ++ (second ++ newline)
 put_row e l r = e ∙ (λ j. l j ++ (r j ++ newline))
-
-pub put_long : {old text new : List ℕ} {a e : ℕ} → Put old a text new e → length new ≡ length old
-put_long {old} {text} {new} {a} p = ap length p.stored ∙ length_splice old a text

@@ -1,7 +1,7 @@
 -- The decode listing program of document 01: what it prints for an input. Assumes nothing: these are definitions.
-use Rattle.std.specs.Prelude.{ℕ, zero, suc, ◌+◌, Bool, cond, List, [], ◌∷◌, ◌++◌, eqb, ℤ, length, take, drop}
+use Rattle.std.specs.Prelude.{ℕ, ◌+◌, Bool, cond, List, [], ◌∷◌, ◌++◌, eqb, ℤ, length, take, drop}
 use Rattle.numbers.specs.Wrap.{signed16}
-use Rattle.little.specs.Little.{at16}
+use Rattle.little.specs.Little.{at16, signed_halves}
 use Rattle.adpcm.specs.Code.{decoded_samples, decoded_history}
 use Rattle.adpcm.specs.Adpcm.{sample_of}
 use Rattle.adpcm.specs.declared.History.{History}
@@ -10,14 +10,9 @@ use Rattle.listing.specs.Sizes.{width, header, frame_bytes, input_room}
 
 -- ---- the input: "16 coefficients, yn1, yn2, count (all 16 bits, little-endian, count unsigned), then the frames"
 
--- so many signed numbers of 16 bits
-abbrev pub signeds_in : ℕ → List ℕ → List ℤ
-signeds_in zero bytes = []
-signeds_in (suc n) bytes = signed16 (at16 bytes 0) ∷ signeds_in n (drop 2 bytes)
-
 -- the 16 coefficients
 unfoldable pub coefficients_in : List ℕ → List ℤ
-coefficients_in input = signeds_in 16 input
+coefficients_in input = signed_halves 16 input
 
 -- yn1 and yn2, the history to go on from
 abbrev pub history_in : List ℕ → History

@@ -1,5 +1,6 @@
 -- Text as the decode listing has it, a list of ASCII bytes: words, numbers in decimal, and columns. Assumes nothing: these are definitions.
-use Rattle.std.specs.Prelude.{ℕ, zero, suc, ◌+◌, ◌-◌, ◌/◌, ◌%◌, Bool, true, false, cond, List, [], ◌∷◌, ◌++◌, ltb, ℤ, pos, negsuc, length, replicate}
+use Rattle.std.specs.Prelude.{ℕ, zero, suc, ◌+◌, ◌-◌, ◌/◌, ◌%◌, Bool, true, false, cond, List, [], ◌∷◌, ◌++◌, ltb, ℤ, pos, negsuc, length}
+use Rattle.std.specs.Prelude.{replicate}
 use Prim.Native.Char.{code}
 use Prim.Native.String.{String, [] as nothing, ◌∷◌ as ◌then◌}
 

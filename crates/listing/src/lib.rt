@@ -9,42 +9,45 @@ pub mod sizes;
 mod table;
 mod text;
 
-ghost use Rattle.std.specs.Prelude.{◌≡◌, List, ◌++◌, ℕ, ◌≤◌, length, take, drop};
-ghost use Rattle.listing.specs.Sizes.{input_room, output_room};
-ghost use Rattle.listing.specs.Inner.{Put, Whole};
-ghost use Rattle.listing.specs.Listing.{read_of, samples_in, last_history_in, tables_of, listed};
+ghost use Rattle.std.specs.Prelude.{◌≡◌, List, ◌++◌, ℕ, ◌≤◌, length, take, drop, IfOk, OnErr, false};
+ghost use Rattle.listing.specs.Sizes.{input_room, most_samples, output_room};
+ghost use Rattle.listing.specs.Inner.{DecodesTo, Put};
+ghost use Rattle.listing.specs.Listing.{count_in, complete, read_of, listed};
 
 use adpcm::History;
+use refusals::Refusal;
 use sizes::{HEADER, MOST_SAMPLES, OUTPUT_ROOM};
 
-// Decodes a complete input of as many samples as there are places for.
-fn decode(bytes: &[u8], samples: &mut [i16]) -> History
-    requires { Whole bytes.now (length samples.old) }
-    ensures samples { samples.new ≡ samples_in bytes.now }
-    ensures history { result ≡ last_history_in bytes.now }
+// Decodes the frames behind a header, as many samples as there are places for, and gives the history after them. How many these are at
+// most is asked where they are taken: a slice that is no longer than a number has no type.
+fn decode(header: &[u8; HEADER], frames: &[u8], samples: &mut [i16]) -> Result<History, Refusal>
+    requires counted { length samples.old ≡ count_in header.now }
+    requires few { length samples.old ≤ most_samples }
+    ensures decoded { IfOk result (λ h. DecodesTo (header.now ++ frames.now) samples.new h) }
+    ensures refused { OnErr result (complete (header.now ++ frames.now) ≡ false) }
 {
-    let header = bytes.first_chunk().unwrap();
     let coefficients = input::coefficients(header);
     let mut history = input::history(header);
-    // A complete input is not refused.
-    let _ = adpcm::decode_adpcm(
-        &bytes[HEADER..],
-        samples.len(),
-        &coefficients,
-        &mut history,
-        samples,
-    );
-    history
+    adpcm::decode_adpcm(frames, samples.len(), &coefficients, &mut history, samples)?;
+    Ok(history)
 }
 
-// Decodes a complete input of as many samples as there are places for, and puts both tables.
-fn put_decoded(bytes: &[u8], samples: &mut [i16], output: &mut [u8; OUTPUT_ROOM]) -> usize
-    requires { Whole bytes.now (length samples.old) }
-    ensures tables { Put output.old 0 (tables_of bytes.now) output.new result }
+// Decodes as many samples as there are places for, and puts both tables, or 9 where the decode is refused.
+fn put_decoded(
+    header: &[u8; HEADER],
+    frames: &[u8],
+    samples: &mut [i16],
+    output: &mut [u8; OUTPUT_ROOM],
+) -> usize
+    requires counted { length samples.old ≡ count_in header.now }
+    requires few { length samples.old ≤ most_samples }
+    ensures put { Put output.old 0 (listed (header.now ++ frames.now)) output.new result }
     ensures next { result ≤ output_room }
 {
-    let last = decode(bytes, samples);
-    table::put_tables(samples, last, output)
+    match decode(header, frames, samples) {
+        Ok(last) => table::put_tables(samples, last, output),
+        Err(_) => table::put_nine(output),
+    }
 }
 
 // Lists the decode of an input, or prints 9 where bytes are missing or left over, and answers how many bytes of the output that takes.
@@ -53,15 +56,12 @@ pub fn listing(input: &[u8], output: &mut [u8; OUTPUT_ROOM]) -> usize
     ensures output { output.new ≡ listed input.now ++ drop result output.old }
     ensures within { result ≤ length output.new }
 {
-    let Some(header) = input.first_chunk() else {
+    let Some((header, frames)) = input.split_first_chunk() else {
         return table::put_nine(output);
     };
     let count = input::count(header);
-    if input.len() != HEADER + count.div_ceil(14) * 8 {
-        return table::put_nine(output);
-    }
     let mut samples = [0i16; MOST_SAMPLES];
-    put_decoded(input, &mut samples[..count], output)
+    put_decoded(header, frames, &mut samples[..count], output)
 }
 
 // Lists an input of which `got` bytes were read into a buffer, all of it or as many as the buffer holds. What was not read changes nothing.

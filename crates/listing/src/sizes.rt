@@ -1,5 +1,7 @@
 // The sizes of the input and the output, each named once.
 
+use adpcm::{FRAME_BYTES, FRAME_SAMPLES};
+
 // The width of a column.
 pub const WIDTH: usize = 8;
 // A line: two columns and a newline.
@@ -8,8 +10,8 @@ pub const LINE: usize = 2 * WIDTH + 1;
 pub const HEADER: usize = (16 + 3) * 2;
 // The largest count.
 pub const MOST_SAMPLES: usize = 65535;
-// The frames of that many samples, rounded up by hand: a constant can call no `div_ceil`.
-pub const MOST_FRAMES: usize = (MOST_SAMPLES + 13) / 14 * 8;
+// The frames of that many samples, their bytes counted by hand: a constant can call no `adpcm::bytes_of`.
+pub const MOST_FRAMES: usize = (MOST_SAMPLES + FRAME_SAMPLES - 1) / FRAME_SAMPLES * FRAME_BYTES;
 // The longest input that is complete.
 pub const LONGEST: usize = HEADER + MOST_FRAMES;
 // The program's buffer for its input: one byte more, by which bytes left over are noticed.

@@ -7,8 +7,9 @@ ghost use Rattle.listing.specs.Listing.{rows, tables, only_nine};
 use crate::sizes::{LINE, OUTPUT_ROOM, WIDTH};
 use crate::text::{column, line, number};
 use adpcm::History;
+use refusals::Refusal;
 
-// Puts a line for each sample, after the first line.
+// Puts a line for each sample, after the first line. How many samples there are at most is asked, since no type of a slice says it.
 fn put_rows(samples: &[i16], output: &mut [u8; OUTPUT_ROOM])
     requires { length samples.now ≤ most_samples }
     ensures { Put output.old line_bytes (rows 0 samples.now) output.new ((length samples.now + 1) * line_bytes) }
@@ -37,11 +38,11 @@ pub fn put_tables(samples: &[i16], h: History, output: &mut [u8; OUTPUT_ROOM]) -
     at + 2 * LINE
 }
 
-// Puts 9 in one column.
+// Puts the number of a decode that is refused, 9, in one column.
 pub fn put_nine(output: &mut [u8; OUTPUT_ROOM]) -> usize
     ensures { Put output.old 0 only_nine output.new result }
 {
-    little::put(output, 0, &number(9u8));
+    little::put(output, 0, &number(Refusal::Decode.number()));
     little::put(output, WIDTH, b"\n");
     WIDTH + 1
 }

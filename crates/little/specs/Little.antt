@@ -1,9 +1,15 @@
 -- Numbers in bytes. Assumes nothing: these are definitions.
-use Rattle.std.specs.Prelude.{ℕ, ◌+◌, ◌*◌, ◌/◌, ◌%◌, List, [], ◌∷◌, ◌++◌, get_or}
+use Rattle.std.specs.Prelude.{ℕ, ◌+◌, ◌*◌, ◌/◌, ◌%◌, List, [], ◌∷◌, ◌++◌, get_or, ℤ}
+use Rattle.lists.specs.Tabulate.{tabulate}
+use Rattle.numbers.specs.Wrap.{signed16}
 
 -- the 16-bit number at a place, "little-endian": the lower byte first
 abbrev pub at16 : List ℕ → ℕ → ℕ
 at16 s at = get_or s (at + 1) 0 * 256 + get_or s at 0
+
+-- so many signed 16-bit numbers, from the first byte on
+abbrev pub signed_halves : ℕ → List ℕ → List ℤ
+signed_halves n bytes = tabulate (λ i. signed16 (at16 bytes (i * 2))) n
 
 -- the 32-bit number at a place, the lower half first
 abbrev pub at32 : List ℕ → ℕ → ℕ

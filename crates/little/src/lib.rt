@@ -7,7 +7,7 @@
 ghost use Rattle.std.specs.Prelude.{◌≡◌, ◌+◌, ◌*◌, ◌/◌, ◌%◌, ◌≤◌, length};
 ghost use Rattle.lists.specs.Splice.{splice};
 ghost use Rattle.numbers.specs.Wrap.{signed16};
-ghost use Rattle.little.specs.Little.{at16, at32, at_dsp32, bytes16, bytes32, dsp32_bytes};
+ghost use Rattle.little.specs.Little.{at16, signed_halves, at32, at_dsp32, bytes16, bytes32, dsp32_bytes};
 
 // The 16-bit number at a place.
 pub fn read16(s: &[u8], at: usize) -> u16
@@ -23,6 +23,14 @@ pub fn signed_at(s: &[u8], at: usize) -> i16
     ensures { result ≡ signed16 (at16 s.now at) }
 {
     read16(s, at).cast_signed()
+}
+
+// The signed 16-bit numbers that the bytes begin with, as many as the array holds.
+pub fn signed_halves<const N: usize>(bytes: &[u8]) -> [i16; N]
+    requires { N * 2 ≤ length bytes.now }
+    ensures { result ≡ signed_halves N bytes.now }
+{
+    std::array::from_fn(|i| signed_at(bytes, i * 2))
 }
 
 // The 32-bit number at a place.

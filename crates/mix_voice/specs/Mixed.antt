@@ -9,12 +9,9 @@ use Rattle.numbers.specs.Wrap.{wrap32}
 use Rattle.numbers.specs.Casts.{single}
 use Rattle.mixing.specs.Gain.{at_gain, progress, fading}
 
--- ---- value k of the mixes: its mix, its channel there, which of the 12 gains is its own, and its sample
+-- ---- value k of the mixes: its mix, which of the 12 gains is its own (there are four to a mix, one for each channel), and its sample
 abbrev pub mix_of : ℕ → ℕ
 mix_of k = k / MIX
-
-abbrev pub channel_of : ℕ → ℕ
-channel_of k = k % MIX / FRAME_SAMPLES
 
 abbrev pub gain_of : ℕ → ℕ
 gain_of k = k / FRAME_SAMPLES

@@ -37,8 +37,8 @@ fn base_of(negative: bool) -> i32
 
 // The part of a sample, which is also handed in as a float.
 pub fn part(gain: f32, sample: i16, s: f32) -> i32
-    requires gain_value { Around 63 gain }
-    requires s_value { s ≡ single sample }
+    requires small { Around 63 gain }
+    requires same_sample { s ≡ single sample }
     ensures { result ≡ at_gain gain sample }
 {
     let x = gain * s;

@@ -19,26 +19,19 @@ pub const FRAME_BYTES: usize = 640;
 const SWITCHES: usize = 12;
 
 pub fn state_of(bytes: &[u8; STATE]) -> Mixer {
-    let output = if bytes[14] != 0 {
-        Output::Mono
-    } else {
-        Output::Stereo
-    };
+    let [aux0, aux1, mono]: [bool; 3] = read_array(&bytes[SWITCHES..]);
     Mixer {
         volume: read_array(bytes),
-        aux: [bytes[12] != 0, bytes[13] != 0],
-        output,
+        aux: [aux0, aux1],
+        output: if mono { Output::Mono } else { Output::Stereo },
     }
 }
 
 pub fn put_state(state: Mixer, bytes: &mut [u8; STATE]) {
     put_each(&state.volume, bytes);
-    let mono = match state.output {
-        Output::Mono => 1,
-        Output::Stereo => 0,
-    };
-    let switches = [u8::from(state.aux[0]), u8::from(state.aux[1]), mono, 0];
-    bytes[SWITCHES..].copy_from_slice(&switches);
+    let [aux0, aux1] = state.aux;
+    let mono = state.output == Output::Mono;
+    put_each(&[aux0, aux1, mono, false], &mut bytes[SWITCHES..]);
 }
 
 pub fn layout_of(bytes: &[u8; LAYOUT]) -> Layout {

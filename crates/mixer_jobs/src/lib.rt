@@ -36,8 +36,7 @@ const INTERMEDIATE: usize = 5120;
 
 const WORDS: usize = 61;
 
-// The bytes of these words.
-const WORD_BYTES: usize = 244;
+const WORD_BYTES: usize = WORDS * 4;
 
 fn size_at(part: &[u8; PART], at: usize) -> usize
     requires { at ≤ 596 }
@@ -51,19 +50,25 @@ fn mixes_of(part: &[u8; PART]) -> [i32; MOST_VALUES] {
     std::array::from_fn(|i| words[i % WORDS])
 }
 
-// Puts the configuration and the intermediate samples into the region that is read.
-fn put_read(part: &[u8; PART], bytes: &mut [u8; MOST_BYTES]) {
-    let at = size_at(part, 32);
-    if let Some(place) = bytes.get_mut(at..at + CONFIGURATION) {
-        place.copy_from_slice(&part[64..108]);
-    }
+fn intermediate_of(part: &[u8; PART]) -> [u8; INTERMEDIATE] {
     let words = &part[108..352];
-    let at = size_at(part, 40);
-    if let Some(place) = bytes.get_mut(at..at + INTERMEDIATE) {
-        for (i, byte) in place.iter_mut().enumerate() {
-            *byte = words[i % WORD_BYTES];
-        }
+    std::array::from_fn(|i| words[i % WORD_BYTES])
+}
+
+// Puts bytes at a place of a region, if they end within it.
+fn put_at<const N: usize>(bytes: &[u8; N], at: usize, region: &mut [u8; MOST_BYTES])
+    requires { at < 2 ^ 32 }
+{
+    if let Some(place) = region.get_mut(at..at + N) {
+        place.copy_from_slice(bytes);
     }
+}
+
+// Puts the configuration and the intermediate samples into the region that is read.
+fn put_read(part: &[u8; PART], region: &mut [u8; MOST_BYTES]) {
+    let configuration = part[64..].first_chunk::<CONFIGURATION>().unwrap();
+    put_at(configuration, size_at(part, 32), region);
+    put_at(&intermediate_of(part), size_at(part, 40), region);
 }
 
 fn answer_of(mixed: Mixed, first: &[u8], second: &[u8]) -> [u8; ANSWER] {

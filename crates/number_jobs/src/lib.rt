@@ -12,70 +12,60 @@ use std::num::{
 
 // What is asked.
 #[derive(Clone, Copy)]
-pub enum Kind {
+enum Kind {
     // the frame counters a and b: the region chosen
-    Region = 0,
+    Region,
     // the four bytes of a dsp32, as a little-endian word a: its value
-    Dsp32Value = 1,
+    Dsp32Value,
     // the value a: the four bytes of its dsp32, as a little-endian word
-    Dsp32Bytes = 2,
+    Dsp32Bytes,
     // a window's base a and length b: number 4 or 0
-    Window = 3,
+    Window,
     // the single a to 32 bits, signed
-    SingleToSigned32 = 4,
+    SingleToSigned32,
     // the double a to 16 bits, signed
-    DoubleToSigned16 = 5,
+    DoubleToSigned16,
     // the double a to 32 bits, unsigned
-    DoubleToUnsigned32 = 6,
+    DoubleToUnsigned32,
     // the signed 32 bits a to a single
-    Signed32ToSingle = 7,
+    Signed32ToSingle,
     // the bits a as a gain, a single
-    Gain = 8,
+    Gain,
     // the bits a as a rate, a double
-    Rate = 9,
+    Rate,
     // whether the single a is finite
-    IsFinite = 10,
+    IsFinite,
     // whether the double a is a rate
-    IsRate = 11,
+    IsRate,
     // whether the double a is a fraction
-    IsFraction = 12,
+    IsFraction,
     // what the sample b adds at the gain a
-    AtGain = 13,
+    AtGain,
     // what a sample adds that fades from the gain a to b; c is the sample, and 65,536 times its place in the frame
-    Fading = 14,
+    Fading,
     // the sample at the fraction c between the samples a and b
-    Between = 15,
+    Between,
 }
 
-// A number that no kind has.
-#[derive(Clone, Copy)]
-pub struct NoKind;
-
-impl TryFrom<u32> for Kind {
-    type Error = NoKind;
-
-    fn try_from(number: u32) -> Result<Kind, NoKind> {
-        match number {
-            0 => Ok(Kind::Region),
-            1 => Ok(Kind::Dsp32Value),
-            2 => Ok(Kind::Dsp32Bytes),
-            3 => Ok(Kind::Window),
-            4 => Ok(Kind::SingleToSigned32),
-            5 => Ok(Kind::DoubleToSigned16),
-            6 => Ok(Kind::DoubleToUnsigned32),
-            7 => Ok(Kind::Signed32ToSingle),
-            8 => Ok(Kind::Gain),
-            9 => Ok(Kind::Rate),
-            10 => Ok(Kind::IsFinite),
-            11 => Ok(Kind::IsRate),
-            12 => Ok(Kind::IsFraction),
-            13 => Ok(Kind::AtGain),
-            14 => Ok(Kind::Fading),
-            15 => Ok(Kind::Between),
-            _ => Err(NoKind),
-        }
-    }
-}
+// The kinds, each at its number.
+const KINDS: [Kind; 16] = [
+    Kind::Region,
+    Kind::Dsp32Value,
+    Kind::Dsp32Bytes,
+    Kind::Window,
+    Kind::SingleToSigned32,
+    Kind::DoubleToSigned16,
+    Kind::DoubleToUnsigned32,
+    Kind::Signed32ToSingle,
+    Kind::Gain,
+    Kind::Rate,
+    Kind::IsFinite,
+    Kind::IsRate,
+    Kind::IsFraction,
+    Kind::AtGain,
+    Kind::Fading,
+    Kind::Between,
+];
 
 const HALVES: u64 = 0x1_0000;
 
@@ -152,8 +142,8 @@ fn number_of(kind: Kind, a: u64, b: u64, c: u64) -> u64 {
 
 // What the kind of this number gives, or 0 where no kind has it.
 pub fn number(kind: u32, a: u64, b: u64, c: u64) -> u64 {
-    match Kind::try_from(kind) {
-        Ok(kind) => number_of(kind, a, b, c),
-        Err(NoKind) => 0,
+    match KINDS.get(kind as usize) {
+        Some(kind) => number_of(*kind, a, b, c),
+        None => 0,
     }
 }

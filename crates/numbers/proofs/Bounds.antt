@@ -1,6 +1,8 @@
 -- How large a sum and a product of whole numbers can be, by their absolute values, so that a bound is one of ℕ and `omega` reads it.
 -- Assumes nothing.
-use Rattle.std.proofs.Common.{◌≡◌, ℕ, zero, suc, ◌+◌, ◌-◌, ◌*◌, ◌^◌, ◌<◌, ◌≤◌, T, ltb, ℤ, pos, negsuc, ◌+ℤ◌, ◌*ℤ◌, neg_ℤ, nat_abs, sym, refl, ap, ◌∙◌, subst, ⊎_elim, le_trans, le_refl, lt_of_le_of_lt, mul-le-mul, arith, ltb→lt, to_z-of_z, SFits, to_z, of_z, le-ltb, lt-ltb}
+use Rattle.std.proofs.Common.{◌≡◌, ℕ, zero, suc, ◌+◌, ◌-◌, ◌*◌, ◌^◌, ◌<◌, ◌≤◌, T, ltb, ℤ, pos, negsuc, ◌+ℤ◌, ◌*ℤ◌, neg_ℤ, nat_abs, sym}
+use Rattle.std.proofs.Common.{refl, ap, ◌∙◌, subst, ⊎_elim, le_trans, le_refl, lt_of_le_of_lt, mul-le-mul, arith, ltb→lt, to_z-of_z, SFits}
+use Rattle.std.proofs.Common.{to_z, of_z, le-ltb, lt-ltb}
 use lib.IntN.{sub_ℕ}
 use lib.Signed.{mag, nat_abs-le, shr_z, mag_shr}
 use mir.Syntax.{Width}

@@ -1,6 +1,8 @@
 -- A rounded fraction never crosses a multiple of 2 ^ g units, where 2 ^ g is no finer than what the format keeps at its size: it is the
 -- nearest multiple of some 2 ^ k with k at most g. A unit is the format's smallest value, 2 ^ -low. Assumes nothing.
-use Rattle.std.proofs.Common.{◌≡◌, ℕ, suc, ◌+◌, ◌-◌, ◌*◌, ◌/◌, ◌%◌, ◌^◌, ◌<◌, ◌≤◌, Bool, sym, refl, ap, ◌∙◌, ⊎_elim, le_trans, le_of_eq, lt_of_lt_of_le, mul-le-mul_right, zero-lt-suc, mul_assoc, mul_comm, div-lt_iff_lt-mul, mul-pos, le-div_iff_mul-le, mul-one, not-le_of_lt, arith, pow_pos, pow_mono, pow-add}
+use Rattle.std.proofs.Common.{◌≡◌, ℕ, suc, ◌+◌, ◌-◌, ◌*◌, ◌/◌, ◌%◌, ◌^◌, ◌<◌, ◌≤◌, Bool, sym, refl, ap, ◌∙◌, ⊎_elim, le_trans, le_of_eq}
+use Rattle.std.proofs.Common.{lt_of_lt_of_le, mul-le-mul_right, zero-lt-suc, mul_assoc, mul_comm, div-lt_iff_lt-mul, mul-pos}
+use Rattle.std.proofs.Common.{le-div_iff_mul-le, mul-one, not-le_of_lt, arith, pow_pos, pow_mono, pow-add}
 use lib.Ieee.{Format, prec, low, size, round}
 use lib.Ieee.Digits.{size-lt, size-le, back}
 use lib.Ieee.Fits.{round_is}

@@ -1,6 +1,7 @@
 -- The tests of a float as the code makes them, and as other laws of floats take them, are the tests defined: shown by the kinds of float.
 -- Assumes nothing.
-use Rattle.std.proofs.Common.{◌≡◌, ℕ, zero, suc, ◌+◌, ◌*◌, Bool, true, false, not, ◌&&◌, ◌||◌, T, eqb, ltb, ℤ, sym, refl, subst, true≢false, zero-lt-suc, arith, eqb→eq, le-ltb, lt-ltb, ne_eqb}
+use Rattle.std.proofs.Common.{◌≡◌, ℕ, zero, suc, ◌+◌, ◌*◌, Bool, true, false, not, ◌&&◌, ◌||◌, T, eqb, ltb, ℤ, sym, refl, subst, true≢false}
+use Rattle.std.proofs.Common.{zero-lt-suc, arith, eqb→eq, le-ltb, lt-ltb, ne_eqb}
 use lib.Ieee.{Float, nan, inf, fin, up, down, lt, le, eq, is_nan}
 use Rattle.std.specs.Float.{float_is_finite}
 use lib.Ieee.Fits.{and_l}

@@ -1,6 +1,8 @@
 -- A whole number's nearest f32 from its two halves: each is a float exactly, and so is the upper one times 2 ^ 16, so only the sum rounds.
 -- Assumes nothing.
-use Rattle.std.proofs.Common.{◌≡◌, ℕ, suc, ◌-◌, ◌*◌, ◌/◌, ◌%◌, ◌^◌, ◌<◌, ◌≤◌, Bool, true, false, ◌&&◌, T, ltb, ℤ, pos, negsuc, nat_abs, sym, refl, ap, ◌∙◌, lt_of_le_of_lt, mul-le-mul_right, zero-lt-suc, mul_assoc, div-add-mod', mul-one, arith, lit<, le→leb, lt→ltb, le-ltb, lt-ltb}
+use Rattle.std.proofs.Common.{◌≡◌, ℕ, suc, ◌-◌, ◌*◌, ◌/◌, ◌%◌, ◌^◌, ◌<◌, ◌≤◌, Bool, true, false, ◌&&◌, T, ltb, ℤ, pos, negsuc, nat_abs, sym}
+use Rattle.std.proofs.Common.{refl, ap, ◌∙◌, lt_of_le_of_lt, mul-le-mul_right, zero-lt-suc, mul_assoc, div-add-mod', mul-one, arith, lit<}
+use Rattle.std.proofs.Common.{le→leb, lt→ltb, le-ltb, lt-ltb}
 use lib.Signed.{shr_z, mag}
 use lib.Ieee.{Float, fin, binary32, round, unlike, sum, add, mul, of_int, in_float}
 use lib.Ieee.Exact.{HasValue, round_exact}

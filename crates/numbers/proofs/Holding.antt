@@ -1,6 +1,9 @@
 -- A float held to what 16 bits reach is small, and its whole part with the sign back is the cast clamped to 16 bits. By the kinds of float.
 -- Assumes nothing.
-use Rattle.std.proofs.Common.{◌≡◌, ℕ, zero, suc, ◌+◌, ◌-◌, ◌*◌, ◌/◌, ◌^◌, ◌<◌, ◌≤◌, min, Bool, true, false, T, ltb, ℤ, pos, negsuc, neg_ℤ, nat_abs, sym, refl, ap, ◌∙◌, subst, ⊎_elim, true≢false, lt_of_lt_of_le, le_trans, mul-le-mul_right, pow_mono, div-lt_iff_lt-mul, le-div_iff_mul-le, arith, lit≤, le→leb, lt→ltb, ltb-false, ltb-true, le-ltb, lt-ltb, eq-eqb}
+use Rattle.std.proofs.Common.{◌≡◌, ℕ, zero, suc, ◌+◌, ◌-◌, ◌*◌, ◌/◌, ◌^◌, ◌<◌, ◌≤◌, min, Bool, true, false, T, ltb, ℤ, pos, negsuc, neg_ℤ}
+use Rattle.std.proofs.Common.{nat_abs, sym, refl, ap, ◌∙◌, subst, ⊎_elim, true≢false, lt_of_lt_of_le, le_trans, mul-le-mul_right, pow_mono}
+use Rattle.std.proofs.Common.{div-lt_iff_lt-mul, le-div_iff_mul-le, arith, lit≤, le→leb, lt→ltb, ltb-false, ltb-true, le-ltb, lt-ltb}
+use Rattle.std.proofs.Common.{eq-eqb}
 use native.Mathlib.Nat.{zero-div}
 use lib.Signed.{mag}
 use lib.Ieee.Back.{positive_back, negative_back}

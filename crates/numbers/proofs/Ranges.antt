@@ -1,6 +1,7 @@
 -- What wrapping and clamping leave alone, and what they keep to: a number in range wraps to itself, and 16 bits hold what was clamped to
 -- them. Assumes nothing.
-use Rattle.std.proofs.Common.{◌≡◌, ℕ, suc, ◌-◌, ◌%◌, ◌<◌, ◌≤◌, Bool, true, false, cond, ℤ, pos, negsuc, refl, ap, ◌∙◌, arith, w16, w32, SFits, ltb-false, le-ltb, lt-ltb}
+use Rattle.std.proofs.Common.{◌≡◌, ℕ, suc, ◌-◌, ◌%◌, ◌<◌, ◌≤◌, Bool, true, false, cond, ℤ, pos, negsuc, refl, ap, ◌∙◌, arith, w16, w32}
+use Rattle.std.proofs.Common.{SFits, ltb-false, le-ltb, lt-ltb}
 use lib.Signed.{lt_z}
 use mir.Facts.{sfits_lit}
 use Rattle.lists.proofs.Bools.{cond_yes, cond_no}

@@ -1,5 +1,8 @@
 -- Bounds that rounding keeps: `Reach x c` says that x is finite and its size at most the whole number c. Assumes nothing.
-use Rattle.std.proofs.Common.{◌≡◌, ℕ, suc, ◌+◌, ◌-◌, ◌*◌, ◌/◌, ◌^◌, ◌<◌, ◌≤◌, min, Bool, true, false, cond, ◌&&◌, ◌||◌, T, eqb, ltb, ℤ, pos, negsuc, neg_ℤ, nat_abs, sym, ap, ◌∙◌, subst, true≢false, le_trans, le_of_eq, lt_of_lt_of_le, lt_of_le_of_lt, mul-le-mul_right, zero-lt-suc, mul_assoc, mul_comm, add-mul, mul-le-mul, mul-lt-mul_of_pos_right, mul-pos, one-mul, mul-one, mul_right_comm, le_of_mul-le-mul_right, arith, lit≤, eqb→eq, pow_pos, pow_mono, pow-add}
+use Rattle.std.proofs.Common.{◌≡◌, ℕ, suc, ◌+◌, ◌-◌, ◌*◌, ◌/◌, ◌^◌, ◌<◌, ◌≤◌, min, Bool, true, false, cond, ◌&&◌, ◌||◌, T, eqb, ltb, ℤ, pos}
+use Rattle.std.proofs.Common.{negsuc, neg_ℤ, nat_abs, sym, ap, ◌∙◌, subst, true≢false, le_trans, le_of_eq, lt_of_lt_of_le, lt_of_le_of_lt}
+use Rattle.std.proofs.Common.{mul-le-mul_right, zero-lt-suc, mul_assoc, mul_comm, add-mul, mul-le-mul, mul-lt-mul_of_pos_right, mul-pos}
+use Rattle.std.proofs.Common.{one-mul, mul-one, mul_right_comm, le_of_mul-le-mul_right, arith, lit≤, eqb→eq, pow_pos, pow_mono, pow-add}
 use mathlib.Core.Bool.{beq}
 use native.Mathlib.Nat.{mul-mul-mul_comm}
 use native.Mathlib.Nat.{div-le_of_le-mul}

@@ -1,5 +1,6 @@
--- What the two formats of floats have in common, so that a cast is stated once for both: some numbers by their bits, how many digits a
--- number keeps, and operations that are IEEE 754's. Assumes nothing: these are definitions, and that the two formats are as they say.
+-- What the trait `Real` says of the two formats of floats, so that a cast is stated once for both: some numbers by their bits, how many
+-- digits a number keeps, and operations that are IEEE 754's. No caller needs it. Assumes nothing: these are
+-- definitions, and that the two formats are as they say.
 use Rattle.std.specs.Prelude.{◌≡◌, ℕ, suc, ◌+◌, ◌<◌, ◌≤◌, ◌^◌, Bool, false, pos, from_bits}
 use Rattle.std.specs.Float.{Float, Format, binary32, binary64, fin}
 use Rattle.std.specs.Float.Ieee.{add, sub, neg, eq, prec, emax, of_bits}

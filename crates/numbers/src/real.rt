@@ -61,6 +61,7 @@ pub trait Real: Copy
     ghost can_operate: { (x y : Self) → Self.can_add x y × (Self.can_sub x y × Self.can_neg x) };
 }
 
+// Two impls of one shape: each method is its type's own, and an impl that a macro writes is refused.
 impl Real for f32 {
     ghost format = { binary32 };
 

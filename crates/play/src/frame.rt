@@ -15,6 +15,9 @@ use track::player::Player;
 use voice::record::Voice;
 use window::Window;
 
+// The functions below take a record and a lane beside it, and ask each time that the one is well-formed for the other: a lent record may be
+// malformed, and a lane of any length is a `&mut` slice, beside which no ghost field can say so.
+
 // What a frame comes to: the record, and how many samples were produced.
 #[derive(Clone, Copy)]
 pub struct Played {
@@ -24,33 +27,31 @@ pub struct Played {
 
 // The record as a silent frame begins.
 #[tactic(auto, unfolding(crate::specs::Play::opened))]
-fn open(v: Voice) -> Voice
+fn open(mut v: Voice) -> Voice
     ensures { result ≡ opened v }
 {
-    let mut w = v;
-    w.ran_out_at_frame_end = false;
-    w.frame = [0; FRAME];
-    w
+    v.ran_out_at_frame_end = false;
+    v.frame = [0; FRAME];
+    v
 }
 
 #[tactic(auto, unfolding(crate::specs::Play::switched_off))]
-fn switch_off(v: Voice) -> Voice
+fn switch_off(mut v: Voice) -> Voice
     ensures { result ≡ switched_off v }
 {
-    let mut w = v;
-    w.enabled = false;
-    w.buffer_update = true;
-    w.last_buffer_id = v.current_buffer_id;
-    w.current_buffer_id = 0;
-    w.position = 0;
-    w
+    v.enabled = false;
+    v.buffer_update = true;
+    v.last_buffer_id = v.current_buffer_id;
+    v.current_buffer_id = 0;
+    v.position = 0;
+    v
 }
 
 // A frame spent on a dequeue, or the voice switched off.
 #[tactic(auto, unfolding(crate::specs::Play::silent_frame))]
 fn be_silent(v: Voice, window: Window<'_>, lane: &mut [i16]) -> Voice
     requires well_formed { WellFormed (length lane.old) v }
-    requires lane_len_bound { length lane.old ≤ most_samples }
+    requires short_lane { length lane.old ≤ most_samples }
     ensures record { result ≡ (silent_frame window.entry.bytes.now window.entry.base v lane.old).voice }
     ensures lane { lane.new ≡ (silent_frame window.entry.bytes.now window.entry.base v lane.old).lane }
 {
@@ -81,50 +82,53 @@ fn play_left(player: Player<'_>, frame: &mut [i16; FRAME]) -> Reached
 
 // Plays what is left of the entry at hand, and then entries one after the other, until the frame is full or nothing is queued. Stores go
 // to the record in its place, since one that is handed on is copied.
-fn play_entries(v: Voice, window: Window<'_>, lane: &mut [i16], frame: &mut [i16; FRAME]) -> Played
+fn play_entries(
+    mut v: Voice,
+    window: Window<'_>,
+    lane: &mut [i16],
+    frame: &mut [i16; FRAME],
+) -> Played
     requires well_formed { WellFormed (length lane.old) v }
-    requires lane_len_bound { length lane.old ≤ most_samples }
-    requires frame_value { frame.old ≡ replicate FRAME (pos 0) }
+    requires short_lane { length lane.old ≤ most_samples }
+    requires silent { frame.old ≡ replicate FRAME (pos 0) }
     ensures record { result.voice ≡ (filled window.entry.bytes.now window.entry.base v lane.old).voice }
     ensures lane { lane.new ≡ (filled window.entry.bytes.now window.entry.base v lane.old).lane }
     ensures frame { frame.new ≡ frame_of (filled window.entry.bytes.now window.entry.base v lane.old).samples }
     ensures produced { result.produced ≡ length (filled window.entry.bytes.now window.entry.base v lane.old).samples }
 {
-    let first = play_left(Player::of(v, window, lane), frame);
-    let mut w = v;
-    w.remaining = first.cursor.remaining;
-    w.fraction = first.cursor.fraction;
+    let first = play_left(Player::of(&v, window, lane), frame);
+    v.remaining = first.cursor.remaining;
+    v.fraction = first.cursor.fraction;
     let mut output = first.count;
     // an entry gives many samples or few, so the count does not step by one
     while output < FRAME_SAMPLES {
-        let Some(x) = dequeue(w, window, lane) else {
+        let Some(x) = dequeue(v, window, lane) else {
             break;
         };
-        let r = play_entry(Player::of(x, window, lane), frame, output);
-        w = x;
-        w.remaining = r.cursor.remaining;
-        w.fraction = r.cursor.fraction;
+        let r = play_entry(Player::of(&x, window, lane), frame, output);
+        v = x;
+        v.remaining = r.cursor.remaining;
+        v.fraction = r.cursor.fraction;
         output += r.count;
     }
     Played {
-        voice: w,
+        voice: v,
         produced: output,
     }
 }
 
 // A frame that plays.
 #[tactic(auto, unfolding(crate::specs::Play::playing_frame, crate::specs::Play::ended))]
-fn play(v: Voice, window: Window<'_>, lane: &mut [i16]) -> Played
+fn play(mut v: Voice, window: Window<'_>, lane: &mut [i16]) -> Played
     requires well_formed { WellFormed (length lane.old) v }
-    requires lane_len_bound { length lane.old ≤ most_samples }
+    requires short_lane { length lane.old ≤ most_samples }
     ensures record { result.voice ≡ (playing_frame window.entry.bytes.now window.entry.base v lane.old).voice }
     ensures lane { lane.new ≡ (playing_frame window.entry.bytes.now window.entry.base v lane.old).lane }
     ensures produced { result.produced ≡ (playing_frame window.entry.bytes.now window.entry.base v lane.old).produced }
 {
-    let mut w = v;
-    w.position = v.length - v.remaining;
+    v.position = v.length - v.remaining;
     let mut frame = [0; FRAME];
-    let mut p = play_entries(w, window, lane, &mut frame);
+    let mut p = play_entries(v, window, lane, &mut frame);
     let full = p.produced == FRAME_SAMPLES;
     p.voice.ran_out_at_frame_end = p.voice.remaining == 0 && full;
     p.voice.frame = frame;
@@ -133,8 +137,8 @@ fn play(v: Voice, window: Window<'_>, lane: &mut [i16]) -> Played
 
 // Whether the voice spends the frame silent: nothing remains, and it does not follow on.
 #[tactic(auto, unfolding(crate::specs::Play::follows_on))]
-fn is_silent(v: Voice) -> bool
-    ensures { result ≡ is_silent v }
+fn is_silent(v: &Voice) -> bool
+    ensures { result ≡ is_silent v.now }
 {
     let follows_on = v.ran_out_at_frame_end && v.queued != 0;
     v.remaining == 0 && !follows_on
@@ -144,12 +148,12 @@ fn is_silent(v: Voice) -> bool
 #[tactic(auto, unfolding(crate::specs::Play::played, crate::specs::Play::silent_frame))]
 pub fn play_frame(v: Voice, window: Window<'_>, lane: &mut [i16]) -> Played
     requires well_formed { WellFormed (length lane.old) v }
-    requires lane_len_bound { length lane.old ≤ most_samples }
+    requires short_lane { length lane.old ≤ most_samples }
     ensures record { result.voice ≡ (played window.entry.bytes.now window.entry.base v lane.old).voice }
     ensures lane { lane.new ≡ (played window.entry.bytes.now window.entry.base v lane.old).lane }
     ensures produced { result.produced ≡ (played window.entry.bytes.now window.entry.base v lane.old).produced }
 {
-    if is_silent(v) {
+    if is_silent(&v) {
         return Played {
             voice: be_silent(open(v), window, lane),
             produced: 0,

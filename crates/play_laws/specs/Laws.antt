@@ -9,7 +9,8 @@ use Rattle.voice.specs.Malformed.{malformed, queued_in}
 use Rattle.voice.specs.Range.{is_byte, signed, in_range, sized}
 use Rattle.voice.specs.declared.record.Entry.{Entry}
 use Rattle.voice.specs.declared.record.Format.TheVariants.{Adpcm}
-use Rattle.voice.specs.declared.record.Kinds.{Kinds}
+use Rattle.voice.specs.declared.record.Format.{Format}
+use Rattle.voice.specs.declared.record.Interpolation.{Interpolation}
 use Rattle.voice.specs.declared.record.Voice.{Voice}
 use Rattle.queue.specs.Search.{searched}
 use Rattle.dequeue.specs.Dequeue.{entry_at, start_of}
@@ -113,7 +114,8 @@ DecodedOnce =
 pub record Settings : Type 0 where
   pub sync_count : ℕ
   pub rate : Float
-  pub kinds : Kinds
+  pub format : Format
+  pub interpolation : Interpolation
   pub stereo : Bool
   pub filters : Filters
   pub gain : List Float
@@ -125,7 +127,8 @@ abbrev pub settings_of : Voice → Settings
 settings_of v = record {
   sync_count = v.sync_count;
   rate = v.rate;
-  kinds = v.kinds;
+  format = v.format;
+  interpolation = v.interpolation;
   stereo = v.stereo;
   filters = v.filters;
   gain = v.gain;

@@ -1,5 +1,5 @@
--- What `min_by_key` picks among the entries with their places is the first of smallest id: it keeps the best so far until a smaller id comes.
--- Assumes nothing.
+-- What `min_by_key` picks among the entries with their places is the first of smallest id: it keeps the best so far until a smaller id
+-- comes. Assumes nothing.
 use Prim.Native.Nat.{ℕ, suc, ◌+◌, ◌≤◌, ◌<◌}
 use mathlib.Core.Path.{◌≡◌, refl, sym, ◌∙◌, ap, subst}
 use mathlib.Core.List.{List, [], ◌∷◌, map}
@@ -136,7 +136,8 @@ module _ {S F : Type 0} (steps : S → Option (ℕ × Bor Entry) → S → Type 
     picked queue (Some y) h l = of_some queue y h l
 
 -- the place alone
-pub place_of : (P : ℕ × Bor Entry → ℕ → Type 0) → ((x : ℕ × Bor Entry) (k : ℕ) → P x k → k ≡ x.0) → (r : Option (ℕ × Bor Entry)) (m : Option ℕ)
+pub place_of : (P : ℕ × Bor Entry → ℕ → Type 0) → ((x : ℕ × Bor Entry) (k : ℕ) → P x k → k ≡ x.0)
+    → (r : Option (ℕ × Bor Entry)) (m : Option ℕ)
     → MatchOption r (m ≡ None) (λ x. IsSomeAnd m (P x)) → m ≡ option_map (λ (x : ℕ × Bor Entry). x.0) r
 place_of P gives None m h = h
 place_of P gives (Some x) None h = absurd h

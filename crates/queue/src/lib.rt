@@ -10,7 +10,7 @@ ghost use Rattle.queue.specs.Search.{searched};
 ghost use Rattle.queue.specs.Removal.{removed};
 ghost use Rattle.queue.specs.Played.{was_played, mark_played};
 
-use voice::blank::{PLACES, blank_entry};
+use voice::blank::PLACES;
 use voice::record::{Entry, Voice};
 
 // The last place of a queue.
@@ -28,16 +28,16 @@ pub fn search(queue: &[Entry]) -> Option<usize>
 }
 
 // The entry at a place goes, those behind it move up, and the last place is blank.
-pub fn remove(v: Voice, at: usize) -> Voice
+// That no more is queued than there is room for is asked, and is no fact of the type: a lent record may be malformed.
+pub fn remove(mut v: Voice, at: usize) -> Voice
     requires at_lt_queued { at < v.queued }
     requires queued_le_limit { v.queued ≤ limit }
     ensures { result ≡ removed at v }
 {
-    let mut w = v;
-    w.queue.copy_within(at + 1.., at);
-    w.queue[LAST] = blank_entry();
-    w.queued -= 1;
-    w
+    v.queue.copy_within(at + 1.., at);
+    v.queue[LAST] = Entry::default();
+    v.queued -= 1;
+    v
 }
 
 // Whether an entry was played before.

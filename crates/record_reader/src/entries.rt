@@ -2,7 +2,7 @@
 use crate::{ENTRY, RECORD};
 use adpcm::History;
 use replaying::read;
-use voice::blank::{PLACES, blank_entry};
+use voice::blank::PLACES;
 use voice::record::{Entry, Format};
 
 // The format of a code. A code above the last is the last: every byte is taken, so this is a total match and no `TryFrom`.
@@ -38,7 +38,7 @@ pub fn entry_of(bytes: &[u8; ENTRY]) -> Entry {
 
 pub fn queue_of(bytes: &[u8; RECORD]) -> [Entry; PLACES] {
     let (parts, _) = bytes[280..].as_chunks::<ENTRY>();
-    let mut queue = [blank_entry(); PLACES];
+    let mut queue = [Entry::default(); PLACES];
     for (entry, part) in queue.iter_mut().zip(parts) {
         *entry = entry_of(part);
     }

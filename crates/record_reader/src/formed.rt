@@ -16,7 +16,7 @@ pub fn formed_record(bytes: &[u8; RECORD], lane: usize) -> Result<Voice, Refusal
     ensures { IfOk result (λ v. WellFormed lane v) }
 {
     let v = record_of(bytes);
-    if malformed(v, lane) {
+    if malformed(&v, lane) {
         return Err(Refusal::Malformed);
     }
     Ok(v)

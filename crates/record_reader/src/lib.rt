@@ -21,7 +21,7 @@
 use crate::entries::{entry_of, format_of, queue_of};
 use crate::filtering::filters_of;
 use replaying::{read, read_array};
-use voice::record::{Interpolation, Kinds, Voice};
+use voice::record::{Interpolation, Voice};
 
 mod entries;
 mod filtering;
@@ -33,14 +33,11 @@ pub const RECORD: usize = 2456;
 pub const ENTRY: usize = 24;
 
 // Of these codes, too, one above the last is the last.
-fn kinds_of(bytes: &[u8; RECORD]) -> Kinds {
-    Kinds {
-        format: format_of(bytes[4]),
-        interpolation: match bytes[5] {
-            0 => Interpolation::Polyphase,
-            1 => Interpolation::Linear,
-            _ => Interpolation::None,
-        },
+fn interpolation_of(code: u8) -> Interpolation {
+    match code {
+        0 => Interpolation::Polyphase,
+        1 => Interpolation::Linear,
+        _ => Interpolation::None,
     }
 }
 
@@ -50,7 +47,8 @@ pub fn record_of(bytes: &[u8; RECORD]) -> Voice {
         enabled: read(&bytes[0..]),
         sync_count: read(&bytes[2..]),
         rate: read(&bytes[8..]),
-        kinds: kinds_of(bytes),
+        format: format_of(bytes[4]),
+        interpolation: interpolation_of(bytes[5]),
         stereo: read(&bytes[1..]),
         filters: filters_of(bytes),
         gain: read_array(&bytes[96..]),

@@ -10,12 +10,12 @@ mod entries;
 mod filtering;
 
 // The bytes up to the simple filter.
-fn put_head(v: Voice, bytes: &mut [u8; RECORD]) {
+fn put_head(v: &Voice, bytes: &mut [u8; RECORD]) {
     put(v.enabled, &mut bytes[0..]);
     put(v.stereo, &mut bytes[1..]);
     put(v.sync_count, &mut bytes[2..]);
-    bytes[4] = v.kinds.format as u8;
-    bytes[5] = v.kinds.interpolation as u8;
+    bytes[4] = v.format as u8;
+    bytes[5] = v.interpolation as u8;
     put(v.filters.has_simple, &mut bytes[6..]);
     put(v.filters.has_biquad, &mut bytes[7..]);
     put(v.rate, &mut bytes[8..]);
@@ -23,7 +23,7 @@ fn put_head(v: Voice, bytes: &mut [u8; RECORD]) {
 }
 
 // The ramps' marks, the gains, the ramps, the coefficients and the frame.
-fn put_sound(v: Voice, bytes: &mut [u8; RECORD]) {
+fn put_sound(v: &Voice, bytes: &mut [u8; RECORD]) {
     put_each(&v.has_ramp, &mut bytes[92..]);
     bytes[95] = 0;
     put_each(&v.gain, &mut bytes[96..]);
@@ -33,7 +33,7 @@ fn put_sound(v: Voice, bytes: &mut [u8; RECORD]) {
 }
 
 // The bytes between the coefficients and the entries.
-fn put_state(v: Voice, bytes: &mut [u8; RECORD]) {
+fn put_state(v: &Voice, bytes: &mut [u8; RECORD]) {
     put_history(v.history, &mut bytes[224..]);
     put((v.queued & 0xFFFF_FFFF) as u32, &mut bytes[228..]);
     let marks = [
@@ -50,7 +50,7 @@ fn put_state(v: Voice, bytes: &mut [u8; RECORD]) {
 }
 
 // Puts a record over the bytes.
-pub fn put_record(v: Voice, bytes: &mut [u8; RECORD]) {
+pub fn put_record(v: &Voice, bytes: &mut [u8; RECORD]) {
     put_head(v, bytes);
     filtering::put_filters(v.filters, bytes);
     put_sound(v, bytes);

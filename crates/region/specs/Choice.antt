@@ -17,7 +17,7 @@ abbrev pub number_of_region : Region → ℕ
 number_of_region Zero = 0
 number_of_region One = 1
 
--- what a number is answered with: the region that has it, or 8, "region number > 1"
+-- what a number is answered with: the region that has it, or 8: "the mixer's region number exceeds 1"
 abbrev pub FromNumber : ℕ → Result Region Refusal → Type 0
 FromNumber n (Ok region) = (number_of_region region ≡ n) × (n ≤ 1)
 FromNumber n (Err refusal) = (refusal ≡ RegionNumber) × (1 < n)

@@ -23,7 +23,7 @@
 ghost use Rattle.std.specs.Prelude.{◌<◌, ◌≤◌, ◌^◌};
 
 use crate::fault::{Fault, Reason};
-use crate::parts::Fields;
+use crate::parts::{Fields, MOST_RECORDS, MOST_SAMPLES, MOST_VALUES};
 use crate::{mixer_calls, voice_calls};
 use layout::Layout;
 use mixer_state::Mixer;
@@ -37,15 +37,15 @@ const HEAD: usize = 84;
 pub const ANSWER: usize = 708;
 
 // The most bytes that a job has of each field.
-const RECORDS: usize = 61400;
+const RECORDS: usize = MOST_RECORDS * RECORD;
 
 const REGION: usize = 65537;
 
 const WINDOW: usize = 65536;
 
-const LANES: usize = 98306;
+const LANES: usize = MOST_SAMPLES * 2;
 
-const MIXES: usize = 7684;
+const MIXES: usize = MOST_VALUES * 4;
 
 // What is called.
 #[derive(Clone, Copy)]

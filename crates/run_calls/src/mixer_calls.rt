@@ -1,15 +1,11 @@
 // The mixer's call.
 use crate::jobs::ANSWER;
-use crate::parts::Fields;
+use crate::parts::{Fields, MOST_VALUES, filled};
 use layout::Layout;
 use mixer::tick::{Mixed, tick};
 use mixer_forms::{put_frame, put_state};
 use mixer_state::Mixer;
 use refusals::answered;
-use replaying::read_each;
-
-// One value more than the mixes have.
-const MOST_VALUES: usize = 1921;
 
 // So many times, once at least, each on what the one before left.
 fn repeat(
@@ -46,8 +42,6 @@ pub fn call(
     fields: &mut Fields<'_>,
 ) -> [u8; ANSWER] {
     let mut values = [0i32; MOST_VALUES];
-    read_each(fields.mixes, &mut values);
-    let count = (fields.mixes.len() / 4).min(MOST_VALUES);
-    let mixes = &values[..count];
+    let mixes = filled(fields.mixes, &mut values);
     start_of(repeat(times, state, l, read, fields.first, fields.second, mixes))
 }

@@ -1,62 +1,82 @@
 // The calls for all voices and for one voice alone.
-ghost use Rattle.std.specs.Prelude.{◌≤◌};
-
 use crate::jobs::ANSWER;
-use crate::parts::Fields;
+use crate::parts::{Fields, MOST_RECORDS, MOST_SAMPLES, MOST_VALUES, filled};
+use alone::tick_voice;
 use calls::refused::Refused;
-use lending::{Framed, MOST};
 use record_reader::{RECORD, record_of};
 use record_writer::put_record;
 use refusals::Refusal;
-use replaying::{put_each, read_each};
+use replaying::put_each;
 use stems::Fixed;
-use voice::blank::default_voice;
 use voice::record::Voice;
+use voices::tick;
 
-// One sample more than the lanes of 24 voices have, with 2,048 for each.
-const MOST_SAMPLES: usize = 49153;
-
-// One value more than the mixes have.
-const MOST_VALUES: usize = 1921;
-
-// The records that the bytes hold; past them stand voices as they begin.
-fn records_of(bytes: &[u8]) -> [Voice; MOST] {
-    let (parts, _) = bytes.as_chunks::<RECORD>();
-    let mut records = [default_voice(); MOST];
-    for (record, part) in records.iter_mut().zip(parts) {
-        *record = record_of(part);
-    }
-    records
+// All that a call is lent.
+#[derive(Drop)]
+struct Lent<'a> {
+    records: &'a mut [Voice],
+    first: &'a mut [u8],
+    second: &'a mut [u8],
+    window: &'a [u8],
+    lanes: &'a mut [i16],
+    mixes: &'a mut [i32],
 }
 
-// Puts as many records as the bytes have room for.
-fn put_records(records: &[Voice; MOST], bytes: &mut [u8]) {
+impl Lent<'_> {
+    // One call, for one voice alone or else for all. Nothing is promised, so that no caller has to carry what the call promises.
+    fn call(&mut self, alone: Option<usize>, fixed: Fixed) -> Result<Refused, Refusal> {
+        match alone {
+            Some(voice) => tick_voice(
+                self.records,
+                voice,
+                fixed,
+                self.first,
+                self.second,
+                self.window,
+                self.lanes,
+                self.mixes,
+            ),
+            None => tick(
+                self.records,
+                fixed,
+                self.first,
+                self.second,
+                self.window,
+                self.lanes,
+                self.mixes,
+            ),
+        }
+    }
+
+    // So many calls, one at least, each on what the one before left.
+    fn calls(
+        &mut self,
+        times: u32,
+        alone: Option<usize>,
+        fixed: Fixed,
+    ) -> Result<Refused, Refusal> {
+        let mut answer = self.call(alone, fixed);
+        for _ in 1..times {
+            answer = self.call(alone, fixed);
+        }
+        answer
+    }
+}
+
+// The records that the bytes hold, in the first places.
+fn records_of<'a>(bytes: &[u8], places: &'a mut [Voice]) -> &'a mut [Voice] {
+    let (parts, _) = bytes.as_chunks::<RECORD>();
+    for (place, part) in places.iter_mut().zip(parts) {
+        *place = record_of(part);
+    }
+    let count = parts.len().min(places.len());
+    &mut places[..count]
+}
+
+fn put_records(records: &[Voice], bytes: &mut [u8]) {
     let (parts, _) = bytes.as_chunks_mut::<RECORD>();
     for (part, record) in parts.iter_mut().zip(records) {
-        put_record(*record, part);
-    }
-}
-
-// Once, for one voice alone or else for all. Nothing is promised, so that no caller has to carry what the call promises.
-fn once(
-    alone: Option<usize>,
-    records: [Voice; MOST],
-    count: usize,
-    fixed: Fixed,
-    fields: &mut Fields<'_>,
-    lanes: &mut [i16],
-    mixes: &mut [i32],
-) -> Framed
-    requires { count ≤ 25 }
-{
-    let first = &mut *fields.first;
-    let second = &mut *fields.second;
-    let window = &mut *fields.window;
-    match alone {
-        Some(voice) => lending::stem(
-            records, count, voice, fixed, first, second, window, lanes, mixes,
-        ),
-        None => lending::frame(records, count, fixed, first, second, window, lanes, mixes),
+        put_record(record, part);
     }
 }
 
@@ -76,27 +96,31 @@ fn start_of(answer: Result<Refused, Refusal>) -> [u8; ANSWER] {
     start
 }
 
-// So many times, once at least, each on what the one before left.
 pub fn call(
     alone: Option<usize>,
     times: u32,
     fixed: Fixed,
     fields: &mut Fields<'_>,
 ) -> [u8; ANSWER] {
-    let count = (fields.records.len() / RECORD).min(MOST);
+    let mut voices = [Voice::default(); MOST_RECORDS];
     let mut samples = [0i16; MOST_SAMPLES];
-    read_each(fields.lanes, &mut samples);
-    let lanes = &mut samples[..(fields.lanes.len() / 2).min(MOST_SAMPLES)];
     let mut values = [0i32; MOST_VALUES];
-    read_each(fields.mixes, &mut values);
-    let mixes = &mut values[..(fields.mixes.len() / 4).min(MOST_VALUES)];
-    let records = records_of(fields.records);
-    let mut framed = once(alone, records, count, fixed, fields, lanes, mixes);
-    for _ in 1..times {
-        framed = once(alone, framed.vs, count, fixed, fields, lanes, mixes);
-    }
-    put_each(lanes, fields.lanes);
-    put_each(mixes, fields.mixes);
-    put_records(&framed.vs, fields.records);
-    start_of(framed.answer)
+    // taken out first: a field behind a reference is not read while another one is lent
+    let records = &mut *fields.records;
+    let window = &mut *fields.window;
+    let lanes = &mut *fields.lanes;
+    let mixes = &mut *fields.mixes;
+    let mut lent = Lent {
+        records: records_of(records, &mut voices),
+        first: &mut *fields.first,
+        second: &mut *fields.second,
+        window,
+        lanes: filled(lanes, &mut samples),
+        mixes: filled(mixes, &mut values),
+    };
+    let answer = lent.calls(times, alone, fixed);
+    put_records(lent.records, records);
+    put_each(lent.lanes, lanes);
+    put_each(lent.mixes, mixes);
+    start_of(answer)
 }

@@ -12,8 +12,7 @@ const MOST_BYTES: usize = 65536;
 
 const MOST_SAMPLES: usize = 2048;
 
-// The bytes of that many samples.
-const LANE_BYTES: usize = 4096;
+const LANE_BYTES: usize = MOST_SAMPLES * 2;
 
 // The rest of a job whose window was read.
 fn over(rt: &HostRuntime, window: Window<'_>) -> Result<(), Stop> {

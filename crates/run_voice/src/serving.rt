@@ -13,8 +13,7 @@ use window::Window;
 
 const LANE: usize = 64;
 
-// The lane's bytes.
-const LANE_BYTES: usize = 128;
+const LANE_BYTES: usize = LANE * 2;
 
 const WINDOW: usize = 512;
 

@@ -1,5 +1,5 @@
--- Each outcome that the theorem's calls allow is one that a call can give back: its number is 0 or that of a refusal, and each voice that it
--- lists has the number of a refusal. By taking the numbers apart, and by induction on the order of serving. Assumes nothing.
+-- Each outcome that the theorem's calls allow is one that a call can give back: its number is 0 or that of a refusal, and each voice that
+-- it lists has the number of a refusal. By taking the numbers apart, and by induction on the order of serving. Assumes nothing.
 use mathlib.Core.Path.{◌≡◌, refl, sym}
 use mathlib.Core.Bool.{Bool, true, false, cond}
 use mathlib.Core.List.{List, [], ◌∷◌}
@@ -81,11 +81,6 @@ pub shown_refusals : (n : ℕ) (fx : Fixed) (x : Lent) (order : List ℕ) → Sh
 unfolding refusals answer
 shown_refusals zero fx x order = shown_of _ (λ v. told_frame _) order
 shown_refusals (suc n) fx x order = ([], refl)
-
-pub no_refusals : (n : ℕ) (fx : Fixed) (x : Lent) (order : List ℕ) → (n ≡ 0 → ⊥) → refusals n fx x order ≡ []
-unfolding refusals
-no_refusals zero fx x order h = absurd (h refl)
-no_refusals (suc n) fx x order h = refl
 
 -- ---- what is given back
 

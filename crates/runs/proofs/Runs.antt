@@ -19,7 +19,8 @@ use Rattle.stems.specs.Whole.{memory_left, leaves, Listed, AllServed}
 use Rattle.stems.specs.declared.Fixed.{Fixed}
 use Rattle.stems.proofs.Exist.{runs_exist}
 use Rattle.stems.proofs.Stems.{whole_and_stems}
-use Rattle.runs.proofs.Given.{Told, Shown, told_whole, told_alone, shown_refusals, no_refusals, done_by}
+use Rattle.turns.proofs.Contract.{no_refusals}
+use Rattle.runs.proofs.Given.{Told, Shown, told_whole, told_alone, shown_refusals, done_by}
 use Rattle.runs.specs.Runs.{Done, Ticked, VoiceTicked, AsEnsured, RunOf, outcome_of, lent_at, CallsCompared, CallsRun}
 
 -- ---- a contract says what all that was lent is afterwards
@@ -144,7 +145,9 @@ one_done : (fx : Fixed) (v : ℕ) (x : Lent) (o : Outcome) → OneServed fx v x 
 unfolding outcome_of
 one_done fx v x o a =
     let order = v ∷ [] in
-    let r = done_by o (subst Told (sym a.code) (told_alone fx v x)) (subst Shown (sym a.listed) (shown_refusals (alone_number fx v x) fx x order))
+    let r =
+    done_by o (subst Told (sym a.code) (told_alone fx v x))
+    (subst Shown (sym a.listed) (shown_refusals (alone_number fx v x) fx x order))
     (λ n. a.listed ∙ no_refusals (alone_number fx v x) fx x order (λ z. n (a.code ∙ z))) in (
       r.0,
       record {

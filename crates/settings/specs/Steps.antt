@@ -2,17 +2,19 @@
 -- "reset, partial reset, enable, sync, rate, interpolation, coefficients, gains, filters, format, position, lengthening
 -- (PARTIAL_EMBEDDED_BUFFER)"; the position is read with the embedded entry. Where its flag is not set a step leaves the record alone.
 -- Assumes nothing: these are definitions.
-use Rattle.std.specs.Prelude.{ℕ, max, ◌+◌, ◌-◌, ◌*◌, ◌/◌, ◌%◌, ◌^◌, Bool, true, false, not, ◌&&◌, ◌||◌, cond, List, [], ◌∷◌, eqb, ℤ, pos, get_or, set, replicate}
+use Rattle.std.specs.Prelude.{ℕ, max, ◌+◌, ◌-◌, ◌*◌, ◌/◌, ◌%◌, ◌^◌, Bool, true, false, not, ◌&&◌, ◌||◌, cond, List, [], ◌∷◌, eqb, ℤ, pos}
+use Rattle.std.specs.Prelude.{get_or, set, replicate}
 use Rattle.lists.specs.Splice.{part, splice}
 use Rattle.lists.specs.Tabulate.{tabulate}
 use Rattle.numbers.specs.Wrap.{signed16}
 use Rattle.numbers.specs.Bits.{gain, rate}
-use Rattle.little.specs.Little.{at16, at32, at_dsp32}
+use Rattle.little.specs.Little.{at16, signed_halves, at32, at_dsp32}
 use Rattle.fields.specs.Fields.{offset_of, configuration, gain_at}
 use Rattle.filters.specs.Defaults.{default_simple, default_biquad}
 use Rattle.filters.specs.declared.state.Filters.{Filters}
 use Rattle.voice.specs.Blank.{default_voice}
-use Rattle.voice.specs.Set.{set_entry_length, set_voice_enabled, set_voice_sync_count, set_voice_rate, set_voice_kinds, set_voice_stereo}
+use Rattle.voice.specs.Set.{set_entry_length, set_voice_enabled, set_voice_sync_count, set_voice_rate}
+use Rattle.voice.specs.Set.{set_voice_format, set_voice_interpolation, set_voice_stereo}
 use Rattle.voice.specs.Set.{set_voice_filters, set_voice_gain, set_voice_has_ramp, set_voice_ramp, set_voice_coefficients}
 use Rattle.voice.specs.Set.{set_voice_queued, set_voice_playing, set_voice_length, set_voice_remaining, set_voice_ran_out_at_frame_end}
 use Rattle.voice.specs.declared.record.Format.{Format}
@@ -70,12 +72,12 @@ module _ (bytes : List ℕ) where
   unfoldable pub interpolation_step : Voice → Voice
   interpolation_step v =
       let mode = get_or bytes (offset_of configuration "INTERPOLATION") 0 in
-      cond (flag bytes INTERPOLATION) (set_voice_kinds (record { format = v.kinds.format; interpolation = interpolation_of mode }) v) v
+      cond (flag bytes INTERPOLATION) (set_voice_interpolation (interpolation_of mode) v) v
 
   -- the 16 coefficients, from the voice's 32 bytes of them
   unfoldable pub coefficients_step : List ℕ → Voice → Voice
   coefficients_step coefficients v =
-      cond (flag bytes ADPCM_COEFFICIENTS) (set_voice_coefficients (tabulate (λ i. signed16 (at16 coefficients (i * 2))) 16) v) v
+      cond (flag bytes ADPCM_COEFFICIENTS) (set_voice_coefficients (signed_halves 16 coefficients) v) v
 
   -- the gains of mix k, those before kept to fade from: "A gain not finite is 0.0"
   unfoldable pub gain_step : ℕ → Voice → Voice
@@ -137,7 +139,7 @@ module _ (bytes : List ℕ) where
   unfoldable pub format_step : Voice → Voice
   format_step v =
       cond (flag bytes FORMAT || flag bytes EMBEDDED_BUFFER)
-      (set_voice_kinds (record { format = format_in bytes; interpolation = v.kinds.interpolation }) v) v
+      (set_voice_format (format_in bytes) v) v
 
   unfoldable pub stereo_step : Voice → Voice
   stereo_step v = cond (flag bytes MONO_OR_STEREO || flag bytes EMBEDDED_BUFFER) (set_voice_stereo (stereo_in bytes) v) v

@@ -39,7 +39,7 @@ pub const RESET: u32 = 0x2000_0000;
 
 pub const EMBEDDED_BUFFER: u32 = 0x4000_0000;
 
-// Whether a bit of the dirty word is set.
+// Whether a bit of the dirty word is set. That it is above 0 is asked, since the bits are numbers.
 pub fn flag(bytes: &[u8; CONFIG_SIZE], bit: u32) -> bool
     requires { 0 < bit }
     ensures { result ≡ flag bytes.now bit }

@@ -15,6 +15,8 @@ use little::read32;
 use numbers::bits::gain_of;
 use voice::record::Voice;
 
+// A mix is a number below 3, as in the definitions, and the index of its gains: a type of its own would be turned back into it.
+
 // The four gains of a mix.
 fn gains_in(bytes: &[u8; CONFIG_SIZE], mix: usize) -> [f32; 4]
     requires { mix < 3 }

@@ -1,8 +1,5 @@
 // What a flag of the dirty word does to the record, one function for each step that reads no filter and no gain.
-ghost use Rattle.std.specs.Prelude.{◌≡◌, ◌≤◌, ◌*◌};
-ghost use Rattle.lists.specs.Tabulate.{tabulate};
-ghost use Rattle.numbers.specs.Wrap.{signed16};
-ghost use Rattle.little.specs.Little.{at16};
+ghost use Rattle.std.specs.Prelude.{◌≡◌, ◌≤◌};
 ghost use Rattle.settings.specs.Steps.{interpolation_of, format_in, reset_step, partial_reset_step, enable_step, sync_step, rate_step};
 ghost use Rattle.settings.specs.Steps.{interpolation_step, coefficients_step, format_step, stereo_step, lengthen_step};
 
@@ -10,8 +7,7 @@ use crate::dirty;
 use crate::dirty::flag;
 use fields::config;
 use fields::config::CONFIG_SIZE;
-use little::{read_dsp32, read16, read32, signed_at};
-use voice::blank::default_voice;
+use little::{read_dsp32, read16, read32, signed_halves};
 use voice::record::{Format, Interpolation, Voice};
 
 // How many bytes a voice's coefficients take: 16 of 16 bits.
@@ -22,7 +18,7 @@ pub fn reset_step(v: Voice, bytes: &[u8; CONFIG_SIZE]) -> Voice
     ensures { result ≡ reset_step bytes.now v }
 {
     if flag(bytes, dirty::RESET) {
-        default_voice()
+        Voice::default()
     } else {
         v
     }
@@ -86,7 +82,7 @@ pub fn interpolation_step(mut v: Voice, bytes: &[u8; CONFIG_SIZE]) -> Voice
     ensures { result ≡ interpolation_step bytes.now v }
 {
     if flag(bytes, dirty::INTERPOLATION) {
-        v.kinds.interpolation = interpolation_of(bytes[config::INTERPOLATION]);
+        v.interpolation = interpolation_of(bytes[config::INTERPOLATION]);
     }
     v
 }
@@ -106,7 +102,7 @@ pub fn format_step(mut v: Voice, bytes: &[u8; CONFIG_SIZE]) -> Voice
     ensures { result ≡ format_step bytes.now v }
 {
     if flag(bytes, dirty::FORMAT) || flag(bytes, dirty::EMBEDDED_BUFFER) {
-        v.kinds.format = format_in(bytes);
+        v.format = format_in(bytes);
     }
     v
 }
@@ -138,13 +134,6 @@ pub fn lengthen_step(mut v: Voice, bytes: &[u8; CONFIG_SIZE]) -> Voice
     v
 }
 
-// The 16 numbers in 32 bytes.
-fn coefficients_in(bytes: &[u8; COEFFICIENT_BYTES]) -> [i16; 16]
-    ensures { result ≡ tabulate (λ i. signed16 (at16 bytes.now (i * 2))) 16 }
-{
-    std::array::from_fn(|i| signed_at(bytes, i * 2))
-}
-
 #[tactic(auto, unfolding(crate::specs::Steps::coefficients_step))]
 pub fn coefficients_step(
     mut v: Voice,
@@ -154,7 +143,7 @@ pub fn coefficients_step(
     ensures { result ≡ coefficients_step bytes.now coefficients.now v }
 {
     if flag(bytes, dirty::ADPCM_COEFFICIENTS) {
-        v.coefficients = coefficients_in(coefficients);
+        v.coefficients = signed_halves(coefficients);
     }
     v
 }

@@ -10,8 +10,8 @@ use little::{write_dsp32, write16};
 use voice::record::Voice;
 
 // The status of a voice.
-fn status_of(v: Voice) -> [u8; status::STATUS_SIZE]
-    ensures { result ≡ status_of v }
+fn status_of(v: &Voice) -> [u8; status::STATUS_SIZE]
+    ensures { result ≡ status_of v.now }
 {
     let mut new = [0u8; status::STATUS_SIZE];
     new[status::ENABLED] = u8::from(v.enabled);
@@ -24,8 +24,8 @@ fn status_of(v: Voice) -> [u8; status::STATUS_SIZE]
 }
 
 // Puts a voice's status over the bytes.
-pub fn write_status(v: Voice, bytes: &mut [u8; status::STATUS_SIZE])
-    ensures { bytes.new ≡ status_of v }
+pub fn write_status(v: &Voice, bytes: &mut [u8; status::STATUS_SIZE])
+    ensures { bytes.new ≡ status_of v.now }
 {
     *bytes = status_of(v);
 }

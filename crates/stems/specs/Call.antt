@@ -1,6 +1,7 @@
 -- One voice's frame in memory, voices served in turn, and the numbers of the two calls. What a call for all voices leaves, whatever its
 -- order, is in Whole.antt, and what a call for one voice alone leaves in Alone.antt. Assumes nothing: these are definitions.
-use Rattle.std.specs.Prelude.{ℕ, zero, suc, ◌*◌, Bool, true, false, not, ◌||◌, cond, List, [], ◌∷◌, ◌++◌, eqb, ltb, ℤ, pos, ◌+ℤ◌, length, get_or, set, replicate}
+use Rattle.std.specs.Prelude.{ℕ, zero, suc, ◌*◌, Bool, true, false, not, ◌||◌, cond, List, [], ◌∷◌, ◌++◌, eqb, ltb, ℤ, pos, ◌+ℤ◌, length}
+use Rattle.std.specs.Prelude.{get_or, set, replicate}
 use Rattle.lists.specs.Lowest.{rule, lowest}
 use Rattle.lists.specs.Some.{some}
 use Rattle.lists.specs.Splice.{splice}

@@ -10,9 +10,9 @@ use crate::stretch::Reached;
 
 // How far such steps come with so much room, until the entry has no two left.
 pub fn reach(c: Cursor, room: usize) -> Reached
-    requires room_le_frame_samples { room ≤ FRAME_SAMPLES }
-    requires lt_remaining { 1 < c.remaining }
-    requires fraction_value { eq c.fraction +0 ≡ true }
+    requires room_in_frame { room ≤ FRAME_SAMPLES }
+    requires two_left { 1 < c.remaining }
+    requires on_a_sample { eq c.fraction +0 ≡ true }
     ensures { Stretched +1 c room result }
 {
     let remaining = c.remaining as usize;

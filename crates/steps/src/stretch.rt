@@ -37,14 +37,14 @@ fn whole_part(x: f64) -> usize
 
 // The course of a walk through an entry of `size` samples, at a rate: where it begins, and for how many samples there is room.
 #[derive(Clone, Copy)]
-struct Course {
-    size: u32,
-    rate: f64,
-    start: Cursor,
-    room: usize,
-    ghost room_in_frame: { room ≤ FRAME_SAMPLES },
-    ghost two_left: { 1 < start.remaining },
-    ghost start_in_entry: { start.remaining ≤ size },
+pub struct Course {
+    pub size: u32,
+    pub rate: f64,
+    pub start: Cursor,
+    pub room: usize,
+    pub ghost room_in_frame: { room ≤ FRAME_SAMPLES },
+    pub ghost two_left: { 1 < start.remaining },
+    pub ghost start_in_entry: { start.remaining ≤ size },
 }
 
 // 1 from a number on, else 0.
@@ -66,7 +66,7 @@ fn is_slow(rate: f64) -> bool
     rate > 0.0 && rate < 2147483648.0
 }
 
-// Places and fractions lie in two arrays, as the loops that read them take several at a time of each.
+// Places and fractions lie in two arrays: the loops that read them take several of each at a time, and one array of pairs was slower.
 impl Course {
     // Where the walk is with so many samples left, after so many steps.
     fn reached(self, at: usize, fraction: f64, count: usize) -> Reached
@@ -114,7 +114,7 @@ impl Course {
     ) -> Reached
         requires part { Part self.start.fraction }
         requires slow { Slow self.rate }
-        requires rate_bound { self.room * (cast_u32 self.rate + 1) + 1 < self.start.remaining }
+        requires two_left_after { self.room * (cast_u32 self.rate + 1) + 1 < self.start.remaining }
         ensures stretched { Stretched self.rate self.start self.room result }
         ensures walked { Walked self.rate self.start self.size places.new fractions.new result.count }
     {
@@ -151,32 +151,20 @@ impl Course {
         self.is_steady()
             && self.room * (whole_part(self.rate) + 1) + 1 < self.start.remaining as usize
     }
-}
 
-// The walk at any rate, the quick way where it goes.
-pub fn walk(
-    size: u32,
-    rate: f64,
-    c: Cursor,
-    room: usize,
-    places: &mut [u32; FRAME_SAMPLES],
-    fractions: &mut [f64; FRAME_SAMPLES],
-) -> Reached
-    requires room_le_frame_samples { room ≤ FRAME_SAMPLES }
-    requires lt_remaining { 1 < c.remaining }
-    requires remaining_le_size { c.remaining ≤ size }
-    ensures stretched { Stretched rate c room result }
-    ensures walked { Walked rate c size places.new fractions.new result.count }
-{
-    let course = Course {
-        size,
-        rate,
-        start: c,
-        room,
-    };
-    if course.is_quick() {
-        course.steady(places, fractions)
-    } else {
-        course.any(places, fractions)
+    // The walk at any rate, the quick way where it goes.
+    pub fn walk(
+        self,
+        places: &mut [u32; FRAME_SAMPLES],
+        fractions: &mut [f64; FRAME_SAMPLES],
+    ) -> Reached
+        ensures stretched { Stretched self.rate self.start self.room result }
+        ensures walked { Walked self.rate self.start self.size places.new fractions.new result.count }
+    {
+        if self.is_quick() {
+            self.steady(places, fractions)
+        } else {
+            self.any(places, fractions)
+        }
     }
 }

@@ -1,26 +1,24 @@
--- A sample at a place of an entry is among what is held of it. Assumes nothing.
+-- A sample at a place of a source's entry is among what is held of it. Assumes nothing.
 use Rattle.std.proofs.Common.{◌≡◌, refl, Bool, true, false, ℕ, ◌+◌, ◌*◌, ◌≤◌, ◌<◌, List, subst, arith}
 use native.Mathlib.Nat.{mul-le-mul, le_trans}
-use lib.IntN.{ℤ}
 use Rattle.numbers.specs.Wrap.{signed16}
 use Rattle.little.specs.Little.{at16}
 use Rattle.samples.specs.Samples.{stereo_sample}
-use Rattle.voice.specs.declared.record.Entry.{Entry}
 use Rattle.voice.specs.declared.record.Format.{Format}
 use Rattle.stretches.specs.Source.{size8, size16, size_by, size_of, held_by, valued_in, pcm16_in}
+use Rattle.stretches.specs.declared.source.Source.{Source}
 
-module _ (lane : List ℤ) (bytes : List ℕ) (e : Entry) (place : ℕ) (holds : e.length * size_of e ≤ held_by lane bytes e.format)
-    (h : place < e.length) where
-  among : (place + 1) * size_by e.format e.stereo ≤ held_by lane bytes e.format
+module _ (s : Source) (place : ℕ) (h : place < s.played.length) where
+  among : (place + 1) * size_by s.played.format s.played.stereo ≤ held_by s.lane.now s.bytes.now s.played.format
   unfolding size_of
   among =
-      let next : place + 1 ≤ e.length = omega arith in
-      let same : size_by e.format e.stereo ≤ size_by e.format e.stereo = omega arith in
-      le_trans (mul-le-mul next same) holds
+      let next : place + 1 ≤ s.played.length = omega arith in
+      let same : size_by s.played.format s.played.stereo ≤ size_by s.played.format s.played.stereo = omega arith in
+      le_trans (mul-le-mul next same) s.holds
 
   -- of the format that it is
-  pub among_by : (f : Format) → e.format ≡ f → (place + 1) * size_by f e.stereo ≤ held_by lane bytes f
-  among_by f is = subst (λ (f : Format). (place + 1) * size_by f e.stereo ≤ held_by lane bytes f) is among
+  pub among_by : (f : Format) → s.played.format ≡ f → (place + 1) * size_by f s.played.stereo ≤ held_by s.lane.now s.bytes.now f
+  among_by f is = subst (λ (f : Format). (place + 1) * size_by f s.played.stereo ≤ held_by s.lane.now s.bytes.now f) is among
 
 -- a value of 16 bits has two bytes for each of 8
 pub value_among : (stereo : Bool) (place k : ℕ) → k < (place + 1) * size8 stereo → k * 2 + 2 ≤ (place + 1) * size16 stereo

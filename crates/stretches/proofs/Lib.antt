@@ -1,4 +1,5 @@
 pub mod Held
 pub mod Noting
+pub mod Playing
 pub mod Ready
 pub mod Storing

@@ -1,17 +1,21 @@
 -- What is stored from places and fractions is what a track gives: a mono sample is its left value twice, what was fetched is found again,
 -- and a walk notes where the cursors are. Assumes nothing.
 use mathlib.Core.Path.{◌≡◌, refl, sym, ap, ◌∙◌, subst}
-use mathlib.Core.Bool.{Bool, true, false, ◌||◌, not}
+use mathlib.Core.Bool.{Bool, true, false, ◌&&◌, ◌||◌, not}
 use mathlib.Core.Logic.{⊎_elim}
 use mathlib.Core.List.{List}
 use Prim.Native.Nat.{ℕ, zero, suc, ◌+◌, ◌-◌, ◌≤◌, ◌<◌}
 use native.Mathlib.Numerals.{add-one}
 use native.Mathlib.Omega.{arith}
 use lib.IntN.{ℤ}
-use lib.ListN.{length, get_or}
+use lib.ListN.{length, get_or, take}
 use lib.Ieee.{Float, nan, eq}
+use Rattle.std.specs.List.{list_all}
+use Rattle.std.proofs.Math.Seq.{take-length}
+use Rattle.std.proofs.lemmas.List.{length-take-le, get_or-take}
+use Rattle.std.proofs.lemmas.List.Folds.{list_all_more}
 use Rattle.lists.proofs.Walk.{below_or}
-use Rattle.lists.proofs.Bools.{cond_yes, clash, and_both, and_no, and_not, and_yes}
+use Rattle.lists.proofs.Bools.{cond_yes, clash, and_both}
 use Rattle.numbers.specs.Literals.{+0, +1}
 use Rattle.voice.specs.Long.{is_adpcm}
 use Rattle.voice.specs.declared.record.Entry.{Entry}
@@ -82,23 +86,20 @@ zero_each fractions (suc n) a i h =
         let same : n ≡ i = omega arith in
         subst (λ (k : ℕ). eq (get_or fractions k nan) +0 ≡ true) same e
 
-pub zero_not : (fractions : List Float) (i d : ℕ) → eq (get_or fractions i nan) +0 ≡ false → all_zero fractions (suc i + d) ≡ false
+-- the first fractions, as a list
+zero_first : (fractions : List Float) (n : ℕ) → n ≤ length fractions
+    → all_zero fractions n ≡ list_all (λ f. eq f +0) (take n fractions)
 unfolding all_zero
-zero_not fractions i zero e =
-    let none : suc i ≡ suc i + 0 = omega arith in
-    subst (λ (k : ℕ). all_zero fractions k ≡ false) none (and_not (all_zero fractions i) e)
-zero_not fractions i (suc d) e =
-    let next : suc (suc i + d) ≡ suc i + suc d = omega arith in
-    subst (λ (k : ℕ). all_zero fractions k ≡ false) next (and_no _ (zero_not fractions i d e))
+zero_first fractions zero h = refl
+zero_first fractions (suc n) h =
+    ap (λ (b : Bool). b && eq (get_or fractions n nan) +0) (zero_first fractions n (omega arith))
+    ∙ sym (list_all_more (λ f. eq f +0) fractions n nan (omega arith))
+    ∙ ap (λ (k : ℕ). list_all (λ f. eq f +0) (take k fractions)) (add-one n)
 
-pub zero_none : (fractions : List Float) → all_zero fractions 0 ≡ true
-unfolding all_zero
-zero_none fractions = refl
-
-pub zero_next : (fractions : List Float) (i : ℕ) → all_zero fractions i ≡ true → eq (get_or fractions i nan) +0 ≡ true
-    → all_zero fractions (i + 1) ≡ true
-unfolding all_zero
-zero_next fractions i a e = ap (all_zero fractions) (add-one i) ∙ and_yes _ a ∙ e
+-- and all of them
+pub zero_listed : (fractions : List Float) → all_zero fractions (length fractions) ≡ list_all (λ f. eq f +0) fractions
+zero_listed fractions =
+    zero_first fractions (length fractions) (omega arith) ∙ ap (list_all (λ f. eq f +0)) (take-length fractions)
 
 pub plain_each : (plain : Bool) (fractions : List Float) (n : ℕ) → (plain || all_zero fractions n) ≡ true
     → (i : ℕ) → i < n → (plain || eq (get_or fractions i nan) +0) ≡ true
@@ -107,13 +108,18 @@ plain_each false fractions n a i h = zero_each fractions n a i h
 
 -- ---- a walk
 
--- what its notes give is what the track gives
+-- what the first n of its notes give is what the track gives
 pub noted_stored : (lane : List ℤ) (bytes : List ℕ) (e : Entry) (t : Track) (c : Cursor) (places : List ℕ) (fractions : List Float)
-    (output n : ℕ) (frame : List ℤ) → Walked t.rate c t.length places fractions n
-    → stored (noted_at lane bytes e t places fractions) output n frame ≡ stored (sound_after lane bytes e t c) output n frame
-noted_stored lane bytes e t c places fractions output n frame w =
-    stored_same (noted_at lane bytes e t places fractions) output frame (sound_after lane bytes e t c) n
-    (λ i h. let p = w i h in λ j. sound_by (sample_in lane bytes e) t.plain (p.place_is j) (p.fraction_is j))
+    (output n : ℕ) (frame : List ℤ) → n ≤ length places → Walked t.rate c t.length places fractions n
+    → stored (noted_at lane bytes e t (take n places) (take n fractions)) output (length (take n places)) frame
+    ≡ stored (sound_after lane bytes e t c) output n frame
+noted_stored lane bytes e t c places fractions output n frame few w =
+    ap (λ (k : ℕ). stored (noted_at lane bytes e t (take n places) (take n fractions)) output k frame) (length-take-le n places few)
+    ∙ stored_same (noted_at lane bytes e t (take n places) (take n fractions)) output frame (sound_after lane bytes e t c) n
+    (λ i h. let p = w i h in
+    let place = get_or-take n places i 0 h ∙ p.place_is in
+    let fraction = get_or-take n fractions i nan h ∙ p.fraction_is in
+    λ j. sound_by (sample_in lane bytes e) t.plain (place j) (fraction j))
 
 -- ---- at rate 1.0 from a fraction of 0.0
 

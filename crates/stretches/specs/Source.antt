@@ -1,8 +1,8 @@
 -- Where the samples of an entry lie: PCM in one part of the window, ADPCM in the lane; and the sample that a voice produces from them. Only
 -- the contracts of quick functions cite these; `ready_sound` of proofs/Ready.antt proves that they say what track's definitions say.
 -- Assumes nothing: these are definitions.
-use Rattle.std.specs.Prelude.{Bool, ◌||◌, not, cond, List, [], ◌≡◌, ℕ, ◌+◌, ◌-◌, ◌*◌, ◌^◌, ltb, leb, ℤ, pos}
-use Rattle.std.specs.Prelude.{length, get_or, Float, true, Some}
+use Rattle.std.specs.Prelude.{Bool, true, false, ◌&&◌, ◌||◌, not, cond, List, [], ◌≡◌, ℕ, ◌+◌, ◌-◌, ◌*◌, ◌^◌, eqb, ltb, leb, ℤ, pos}
+use Rattle.std.specs.Prelude.{length, get_or, Float, Option, None, Some}
 use Rattle.std.specs.Float.Ieee.{eq}
 use Rattle.numbers.specs.Literals.{+0}
 use Rattle.numbers.specs.Wrap.{signed16}
@@ -82,6 +82,15 @@ pub record AtHand (window : List ℕ) (base : ℕ) (t : Track) (bytes : List ℕ
   pub whole : e.length ≡ t.length
   pub bytes_are : bytes ≡ entry_bytes window base e
   pub held : is_held bytes t.decoded e ≡ true
+
+-- whether there is such an entry: one plays, it is as long as the record says, two samples remain, and every sample is at hand
+abbrev pub at_hand_by : List ℕ → ℕ → Track → Cursor → Option Entry → Bool
+at_hand_by window base t c None = false
+at_hand_by window base t c (Some e) =
+    eqb e.length t.length && (leb 2 c.remaining && is_held (entry_bytes window base e) t.decoded e)
+
+unfoldable pub is_at_hand : List ℕ → ℕ → Track → Cursor → Bool
+is_at_hand window base t c = at_hand_by window base t c t.playing
 
 -- the sample so far past a place, where samples are taken as they are or not
 unfoldable pub sound_by : (ℕ → Sample) → Bool → ℕ → Float → Sample

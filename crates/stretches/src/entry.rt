@@ -1,99 +1,79 @@
 // A stretch of an entry, at its rate.
-ghost use Rattle.std.specs.Prelude.{◌≡◌, true, ◌-◌, ◌≤◌};
+ghost use Rattle.std.specs.Prelude.{◌≡◌, true, ◌≤◌};
 ghost use Rattle.std.specs.Float.Ieee.{eq};
 ghost use Rattle.numbers.specs.Literals.{+0, +1};
 ghost use Rattle.numbers.specs.Sizes.{FRAME_SAMPLES};
-ghost use Rattle.steps.specs.Stretch.{Stretched};
-ghost use Rattle.track.specs.Laid.{laid, Onward};
-ghost use Rattle.stretches.specs.Stored.{stored, sound_after};
+ghost use Rattle.stretches.specs.Onward.{PlaysOn};
 
 use crate::noted::Noted;
-use crate::source::{Source, at_hand};
+use crate::source::{Ready, at_hand};
 use crate::store::store;
 use numbers::sizes::{FRAME, FRAME_SAMPLES};
 use steps::plain::reach;
-use steps::stretch::{Reached, walk};
+use steps::stretch::{Course, Reached};
 use track::player::Player;
 
-// At any rate: the walk through the entry, and then the samples.
-fn play_walk(source: Source<'_>, frame: &mut [i16; FRAME], output: usize) -> Reached
-    requires { output ≤ FRAME_SAMPLES }
-    ensures stretched { let p = source.entry.player in
-        Stretched p.track.rate p.cursor (FRAME_SAMPLES - output) result }
-    ensures frame_after { let p = source.entry.player in
-        frame.new ≡
-        stored (sound_after p.lane.now source.entry.bytes.now source.entry.played p.track p.cursor) output
-        result.count frame.old }
-{
-    let mut places = [0; FRAME_SAMPLES];
-    let mut fractions = [0.0; FRAME_SAMPLES];
-    let track = source.player.track;
-    let room = FRAME_SAMPLES - output;
-    let w = walk(
-        track.length,
-        track.rate,
-        source.player.cursor,
-        room,
-        &mut places,
-        &mut fractions,
-    );
-    let noted = Noted {
-        source,
-        places: &places,
-        fractions: &fractions,
-        count: w.count,
-    };
-    noted.play(frame, output);
-    w
-}
-
-// At rate 1.0 from a fraction of 0.0: the samples as they are.
-fn play_run(source: Source<'_>, frame: &mut [i16; FRAME], output: usize) -> Reached
-    requires room { output ≤ FRAME_SAMPLES }
-    requires rate { source.player.track.rate ≡ +1 }
-    requires fraction { eq source.player.cursor.fraction +0 ≡ true }
-    ensures stretched { let p = source.entry.player in
-        Stretched p.track.rate p.cursor (FRAME_SAMPLES - output) result }
-    ensures frame_after { let p = source.entry.player in
-        frame.new ≡
-        stored (sound_after p.lane.now source.entry.bytes.now source.entry.played p.track p.cursor) output
-        result.count frame.old }
-{
-    let cursor = source.player.cursor;
-    let w = reach(cursor, FRAME_SAMPLES - output);
-    let first = (source.player.track.length - cursor.remaining) as usize;
-    store(frame, output, w.count, |i| source.sample(first + i));
-    w
-}
-
-fn play_held(source: Source<'_>, frame: &mut [i16; FRAME], output: usize) -> Reached
-    requires { output ≤ FRAME_SAMPLES }
-    ensures stretched { let p = source.entry.player in
-        Stretched p.track.rate p.cursor (FRAME_SAMPLES - output) result }
-    ensures frame_after { let p = source.entry.player in
-        frame.new ≡
-        stored (sound_after p.lane.now source.entry.bytes.now source.entry.played p.track p.cursor) output
-        result.count frame.old }
-{
-    if source.player.track.rate == 1.0 && source.player.cursor.fraction == 0.0 {
-        return play_run(source, frame, output);
+// The frame and how many of its samples are there already are two parameters: one struct of both would hold a `&mut`, beside which no ghost
+// field can say that they are no more than the frame has.
+impl Ready<'_> {
+    // At rate 1.0 from a fraction of 0.0: the samples as they are.
+    fn run(self, frame: &mut [i16; FRAME], output: usize) -> Reached
+        requires room { output ≤ FRAME_SAMPLES }
+        requires rate { self.player.track.rate ≡ +1 }
+        requires on_a_sample { eq self.player.cursor.fraction +0 ≡ true }
+        ensures { PlaysOn self.entry.player output frame.old frame.new result }
+    {
+        let cursor = self.player.cursor;
+        let reached = reach(cursor, FRAME_SAMPLES - output);
+        let first = (self.player.track.length - cursor.remaining) as usize;
+        store(
+            frame,
+            output,
+            reached.count,
+            |i| self.source.sample(first + i),
+        );
+        reached
     }
-    play_walk(source, frame, output)
+
+    // At any rate: the walk through the entry, and then the samples.
+    fn walk(self, frame: &mut [i16; FRAME], output: usize) -> Reached
+        requires { output ≤ FRAME_SAMPLES }
+        ensures { PlaysOn self.entry.player output frame.old frame.new result }
+    {
+        let mut places = [0; FRAME_SAMPLES];
+        let mut fractions = [0.0; FRAME_SAMPLES];
+        let course = Course {
+            size: self.player.track.length,
+            rate: self.player.track.rate,
+            start: self.player.cursor,
+            room: FRAME_SAMPLES - output,
+        };
+        let reached = course.walk(&mut places, &mut fractions);
+        let noted = Noted {
+            source: self.source,
+            track: self.player.track,
+            places: &places[..reached.count],
+            fractions: &fractions[..reached.count],
+        };
+        noted.play(frame, output);
+        reached
+    }
 }
 
 // Plays on into the frame from `output`.
 pub fn play_on(player: Player<'_>, frame: &mut [i16; FRAME], output: usize) -> Reached
     requires { output ≤ FRAME_SAMPLES }
-    ensures onward { Onward player.entry.track player.entry.cursor (FRAME_SAMPLES - output) result }
-    ensures frame_after { let p = player.entry in
-        frame.new ≡
-        laid p.window.bytes.now p.window.base p.lane.now p.track p.cursor output result.count frame.old }
+    ensures { PlaysOn player.entry output frame.old frame.new result }
 {
-    match at_hand(player) {
-        Some(source) => play_held(source, frame, output),
-        None => Reached {
+    let Some(ready) = at_hand(player) else {
+        return Reached {
             cursor: player.cursor,
             count: 0,
-        },
+        };
+    };
+    if player.track.rate == 1.0 && player.cursor.fraction == 0.0 {
+        ready.run(frame, output)
+    } else {
+        ready.walk(frame, output)
     }
 }

@@ -1,17 +1,14 @@
 // Where an entry's samples lie: PCM in one part of the window, ADPCM in the lane.
-ghost use Rattle.std.specs.Prelude.{◌≡◌, ℕ, ℤ, ◌+◌, ◌*◌, ◌≤◌, ◌<◌, length, IfSome};
+ghost use Rattle.std.specs.Prelude.{◌≡◌, ℕ, ℤ, ◌+◌, ◌*◌, ◌≤◌, ◌<◌, length, IfSome, is_some};
 ghost use Rattle.stretches.specs.Source.{size8, size_of, held_by, valued_in, sample_in, entry_bytes, is_held};
-ghost use Rattle.stretches.specs.Source.{AtHand};
+ghost use Rattle.stretches.specs.Source.{AtHand, is_at_hand};
 
 use dequeue::align;
 use little::signed_at;
 use samples::{Sample, alike, high_byte};
 use track::player::Player;
 use voice::record::{Entry, Format};
-use window::Window;
-
-// One more than the last 32-bit address.
-const ADDRESSES: u64 = 4294967296;
+use window::{ADDRESSES, Window};
 
 #[tactic(auto, unfolding(crate::specs::Source::size_of))]
 fn size_of(e: Entry) -> u32
@@ -25,14 +22,15 @@ fn size_of(e: Entry) -> u32
     }
 }
 
-// The bytes of a PCM entry, or none where one is absent or lies past the last address.
+// The bytes of a PCM entry, or none where one is absent or lies past the last address. No `Option`: as document 01's look-up it hands back
+// the empty part where a byte is absent, and `is_held` is the test beside it.
 #[tactic(auto, unfolding(crate::specs::Source::entry_bytes))]
 fn entry_bytes<'a>(window: Window<'a>, e: Entry) -> &'a [u8]
     ensures { result.now ≡ entry_bytes window.entry.bytes.now window.entry.base e }
 {
-    let count = u64::from(e.length) * u64::from(size_of(e));
+    let count = e.length as usize * size_of(e) as usize;
     let start = align(e.address);
-    if u64::from(start) + count >= ADDRESSES {
+    if start as usize + count >= ADDRESSES {
         return &window.bytes[..0];
     }
     window.physical(start, count as u32)
@@ -66,21 +64,31 @@ fn is_held(bytes: &[u8], decoded: u32, e: Entry) -> bool
     }
 }
 
-// An entry that is as long as the record says, of which at least two samples are left, and the samples of which are all at hand.
+// An entry, and what holds all of its samples.
 #[derive(Clone, Copy)]
 pub struct Source<'a> {
-    pub player: Player<'a>,
+    pub lane: &'a [i16],
     pub bytes: &'a [u8],
     pub played: Entry,
-    pub ghost holds: { played.length * size_of played ≤ held_by player.lane.now bytes.now played.format },
-    pub ghost whole: { played.length ≡ player.track.length },
+    pub ghost holds: { played.length * size_of played ≤ held_by lane.now bytes.now played.format },
+}
+
+// A player whose entry is as long as the record says, of which at least two samples are left, and the samples of which are all at hand.
+#[derive(Clone, Copy)]
+pub struct Ready<'a> {
+    pub player: Player<'a>,
+    pub source: Source<'a>,
+    pub ghost same_lane: { source.lane.now ≡ player.lane.now },
+    pub ghost at_hand: { AtHand player.window.bytes.now player.window.base player.track source.bytes.now source.played },
     pub ghost two_left: { 1 < player.cursor.remaining },
 }
 
-// What a player plays from, where its entry is such a one.
-pub fn at_hand(player: Player<'_>) -> Option<Source<'_>>
-    ensures { IfSome result (λ s. (s.player ≡ player.entry)
-        × AtHand player.entry.window.bytes.now player.entry.window.base player.entry.track s.bytes.now s.played) }
+// The same player, exactly where its entry is such a one.
+#[tactic(auto, unfolding(crate::specs::Source::is_at_hand))]
+pub fn at_hand(player: Player<'_>) -> Option<Ready<'_>>
+    ensures found { is_some result ≡
+        is_at_hand player.entry.window.bytes.now player.entry.window.base player.entry.track player.entry.cursor }
+    ensures same_player { IfSome result (λ r. r.player ≡ player.entry) }
 {
     let e = player.track.playing?;
     let bytes = entry_bytes(player.window, e);
@@ -90,11 +98,12 @@ pub fn at_hand(player: Player<'_>) -> Option<Source<'_>>
     {
         return None;
     }
-    Some(Source {
-        player,
+    let source = Source {
+        lane: player.lane,
         bytes,
         played: e,
-    })
+    };
+    Some(Ready { player, source })
 }
 
 impl Source<'_> {
@@ -102,12 +111,12 @@ impl Source<'_> {
     #[tactic(auto, unfolding(crate::specs::Source::sample_in))]
     pub fn sample(&self, place: usize) -> Sample
         requires { place < self.now.played.length }
-        ensures { result ≡ sample_in self.now.player.lane.now self.now.bytes.now self.now.played place }
+        ensures { result ≡ sample_in self.now.lane.now self.now.bytes.now self.now.played place }
     {
         match self.played.format {
             Format::Pcm8 => pcm_in(self.played.stereo, place, |k| high_byte(self.bytes[k])),
             Format::Pcm16 => pcm_in(self.played.stereo, place, |k| signed_at(self.bytes, k * 2)),
-            Format::Adpcm => alike(self.player.lane[place]),
+            Format::Adpcm => alike(self.lane[place]),
         }
     }
 }

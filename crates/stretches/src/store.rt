@@ -19,7 +19,8 @@ pub fn stored_at(frame: &[i16; FRAME], k: usize) -> Sample
     }
 }
 
-// So many samples that a closure gives, from a place of the frame on.
+// So many samples that a closure gives, from a place of the frame on. Frame and place are two parameters: one struct of both would hold a
+// `&mut`, beside which no ghost field can say that the place is in the frame.
 pub fn store<F: Fn(usize) -> Sample>(
     frame: &mut [i16; FRAME],
     output: usize,

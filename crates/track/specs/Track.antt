@@ -25,7 +25,7 @@ track_of v = record {
   length = v.length;
   decoded = v.decoded;
   rate = v.rate;
-  plain = is_plain v.kinds.interpolation;
+  plain = is_plain v.interpolation;
 }
 
 -- and where playing is in it

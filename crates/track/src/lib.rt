@@ -1,19 +1,21 @@
-// Of module 5, one produced sample. A `Track` is what is fixed while an entry plays, a `Cursor` where playing is in it: how many samples
-// remain, and the fraction. A `Player` has both, with the window and the lane that samples are taken from; its `sound` is the sample that a
-// voice produces there: the entry's own, or, with interpolation and a fraction other than 0, the one between it and the next. Nothing is
-// refused; of each player no more remains than the record's length, and the lane holds what was decoded.
+// Of module 5, one produced sample. A `Track` is what is fixed while an entry plays, and its `heard_at` the sample at a place of the entry.
+// A `Cursor` is where playing is in it: how many samples remain, and the fraction. A `Player` has both, with the window and the lane that
+// samples are taken from; its `sound` is the sample that a voice produces there: the entry's own, or, with interpolation and a fraction
+// other than 0, the one between it and the next. Nothing is refused; of each player no more remains than the record's length, and the lane
+// holds what was decoded.
 #![tactic(auto)]
 
-ghost use Rattle.std.specs.Prelude.{◌≡◌, ◌<◌};
-ghost use Rattle.track.specs.Track.{track_of, cursor_of, between_samples};
+ghost use Rattle.std.specs.Prelude.{◌≡◌, ◌≤◌, ◌<◌, length};
+ghost use Rattle.track.specs.Track.{track_of, cursor_of, between_samples, heard_at};
 ghost use Rattle.track.specs.Laid.{put};
 ghost use Rattle.numbers.specs.Sizes.{FRAME_SAMPLES};
 
 use mixing::interpolate::interpolate;
 use numbers::sizes::FRAME;
-use samples::Sample;
+use samples::{Sample, sample_at, silent};
 use steps::step::Cursor;
 use voice::record::{Entry, Interpolation, Voice};
+use window::Window;
 
 pub mod player;
 
@@ -28,20 +30,35 @@ pub struct Track {
     pub plain: bool,
 }
 
-pub fn track_of(v: Voice) -> Track
-    ensures { result ≡ track_of v }
+impl Track {
+    // The sample at a place of the entry, and past its end its last.
+    #[tactic(auto, unfolding(crate::specs::Track::heard_at))]
+    pub fn heard_at(self, window: Window<'_>, lane: &[i16], place: usize) -> Sample
+        requires { self.decoded ≤ length lane.now }
+        ensures { result ≡ heard_at window.entry.bytes.now window.entry.base lane.now self place }
+    {
+        let Some(e) = self.playing else {
+            return silent();
+        };
+        let last = e.length.saturating_sub(1) as usize;
+        sample_at(window, lane, self.decoded, e, place.min(last) as u32)
+    }
+}
+
+pub fn track_of(v: &Voice) -> Track
+    ensures { result ≡ track_of v.now }
 {
     Track {
         playing: v.has_playing.then_some(v.playing),
         length: v.length,
         decoded: v.decoded,
         rate: v.rate,
-        plain: v.kinds.interpolation == Interpolation::None,
+        plain: v.interpolation == Interpolation::None,
     }
 }
 
-pub fn cursor_of(v: Voice) -> Cursor
-    ensures { result ≡ cursor_of v }
+pub fn cursor_of(v: &Voice) -> Cursor
+    ensures { result ≡ cursor_of v.now }
 {
     Cursor {
         remaining: v.remaining,

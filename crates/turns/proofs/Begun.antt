@@ -1,9 +1,9 @@
 -- What a call may rely on once none of 1 to 6 applies and no record is malformed: the lengths, and each record's form. By taking the
 -- numbers apart. Assumes nothing.
-use mathlib.Core.Path.{◌≡◌, refl, subst}
+use mathlib.Core.Path.{◌≡◌, subst}
 use mathlib.Core.Bool.{false}
 use mathlib.Core.List.{List}
-use Prim.Native.Nat.{ℕ, zero, suc, ◌<◌}
+use Prim.Native.Nat.{ℕ, ◌<◌}
 use native.Mathlib.Omega.{arith}
 use lib.Dec.{lit<}
 use lib.IntN.{ℤ}
@@ -15,16 +15,11 @@ use Rattle.voice.specs.Blank.{default_voice}
 use Rattle.voice.specs.Malformed.{malformed, WellFormed}
 use Rattle.voice.specs.declared.record.Voice.{Voice}
 use Rattle.voice.proofs.Formed.{not_malformed_formed}
-use Rattle.stems.specs.Call.{lengths, or_else}
+use Rattle.stems.specs.Call.{lengths}
 use Rattle.stems.specs.Memory.{Memory, lane_length}
 use Rattle.stems.specs.declared.Fixed.{Fixed}
 use Rattle.stems.proofs.Shape.{Fits, fits}
 use Rattle.calls.specs.Begin.{Fitting, Counted, lengths_of, lengths_code}
-
--- a number that is not 0 comes before the next
-pub first_not_0 : (n next : ℕ) → (n ≡ 0 → ⊥) → or_else n next ≡ n
-first_not_0 zero next h = absurd (h refl)
-first_not_0 (suc n) next h = refl
 
 pub each_formed : (ys : List Voice) (lanes : ℕ) → some (malformed (lane_length lanes)) ys ≡ false → (j : ℕ) → j < length ys
     → WellFormed (lane_length lanes) (get_or ys j default_voice)

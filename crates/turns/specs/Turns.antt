@@ -1,6 +1,6 @@
 -- One voice's turn as it changes all that is lent. Inner definitions: what the calls do does not name them (`Whole` and `Alone` of stems).
 -- Assumes nothing: these are definitions.
-use Rattle.std.specs.Prelude.{ℕ, Bool, List, ℤ, length, set, get_or}
+use Rattle.std.specs.Prelude.{ℕ, Bool, List, [], ℤ, length, set, get_or}
 use Rattle.voice.specs.Blank.{default_voice}
 use Rattle.voice.specs.declared.record.Voice.{Voice}
 use Rattle.stems.specs.Memory.{lane_length}
@@ -9,7 +9,7 @@ use Rattle.stems.specs.Inner.{LongAs}
 use Rattle.voice_turn.specs.Turn.{answer_to, record_by, region0_by, region1_by, lanes_by, mixes_by}
 use Rattle.calls.specs.Refused.{refused_after}
 use Rattle.voice_frame.specs.VoiceFrame.{number_of}
-use Rattle.stems.specs.Call.{Refusal}
+use Rattle.stems.specs.Call.{Refusal, no_mixes}
 
 -- ---- a turn
 
@@ -21,6 +21,17 @@ pub record State : Type 0 where
   pub lanes : List ℤ
   pub mixes : List ℤ
   pub refused : List Refusal
+
+-- what a call begins with: what it is lent, no mix value and no voice refused
+abbrev pub beginning : List Voice → List ℕ → List ℕ → List ℤ → State
+beginning voices region0 region1 lanes = record {
+  voices = voices;
+  region0 = region0;
+  region1 = region1;
+  lanes = lanes;
+  mixes = no_mixes;
+  refused = [];
+}
 
 -- voice i has its turn, where region 1 is read or not
 abbrev pub serve_one : Fixed → List ℕ → Bool → ℕ → State → State

@@ -21,6 +21,7 @@ use voice::record::Voice;
 use voice_turn::turn::take_turn;
 
 // Gives voice i its turn, by the region that is read: it is served, or refused and left as it was.
+// That the record is well-formed for its lane is asked for and no fact of a type, which could not hold the lent lanes beside the record.
 // Memory is lent thing by thing: a struct of `&mut` would need in each contract, beside what each thing becomes, that it is the same loan.
 pub fn serve_at(
     voices: &mut [Voice],

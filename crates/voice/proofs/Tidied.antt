@@ -1,15 +1,16 @@
 -- The laws of tidying: how long a tidied queue and tidied ramps are and what stands at a place of them; a tidied voice is blank where it
 -- must be, and a voice that is so is left alone. Assumes nothing.
-use Prim.Native.Nat.{ℕ, zero, suc, ◌/◌, ◌<◌, ◌≤◌}
+use Prim.Native.Nat.{ℕ, ◌-◌, ◌/◌, ◌<◌, ◌≤◌}
 use mathlib.Core.Bool.{Bool, true, false, cond}
-use mathlib.Core.List.{List}
+use mathlib.Core.List.{List, ◌++◌}
 use mathlib.Core.Logic.{◌⊎◌, inl, inr}
 use mathlib.Core.Path.{◌≡◌, refl, sym, ap, ◌∙◌, subst}
 use lib.Dec.{ltb}
 use lib.Ieee.{Float}
-use lib.ListN.{length, get_or, replicate}
-use lib.ListN.{get_or-eq_default}
-use lib.Seq.{ext_get_or}
+use lib.ListN.{length, get_or, replicate, take, get_or-eq_default, get_or-append, length-append, length-replicate}
+use lib.Seq.{ext_get_or, get_or-take, length-take-le}
+use Rattle.std.proofs.Common.{map, min}
+use Rattle.std.proofs.lemmas.List.{length-map, get_or-map, get_or-append_right, get_or-replicate}
 use native.Mathlib.Omega.{arith}
 use borrow.Author.Tests.{lt-ltb, le-ltb, ltb-true, ltb-false}
 use Rattle.lists.proofs.Bools.{cond_yes, cond_no}
@@ -19,7 +20,7 @@ use Rattle.adpcm.specs.declared.History.{History}
 use Rattle.filters.specs.Defaults.{default_simple, default_biquad}
 use Rattle.voice.specs.declared.record.Entry.{Entry}
 use Rattle.voice.specs.declared.record.Voice.{Voice}
-use Rattle.voice.specs.Blank.{places, blank_history, blank_entry, blank_gain, default_voice}
+use Rattle.voice.specs.Blank.{places, blank_history, blank_entry, blank_gain}
 use Rattle.voice.specs.Set.{set_entry_adpcm, set_voice_queue, set_voice_ramp, set_voice_filters, set_voice_playing}
 use Rattle.voice.specs.Tidy.{tidy_entry, tidy_under, tidy_queue, tidy_gain, tidy_ramp, tidy_filters, tidied, BlankEntry, Blank}
 
@@ -54,7 +55,8 @@ under_off on e h = cond_no (tidy_entry e) blank_entry h
 
 -- a queued entry, tidied
 pub queued_at :
-    (n : ℕ) (queue : List Entry) (k : ℕ) → k < n → n ≤ places → get_or (tidy_queue n queue) k blank_entry ≡ tidy_entry (get_or queue k blank_entry)
+    (n : ℕ) (queue : List Entry) (k : ℕ) → k < n → n ≤ places
+    → get_or (tidy_queue n queue) k blank_entry ≡ tidy_entry (get_or queue k blank_entry)
 queued_at n queue k h l =
     queue_at n queue k blank_entry (omega arith) ∙ under_on (ltb k n) (get_or queue k blank_entry) (lt-ltb k n h)
 
@@ -65,6 +67,44 @@ past_at n queue k h = by (below_or k places)
     by : (k < places) ⊎ (places ≤ k) → get_or (tidy_queue n queue) k blank_entry ≡ blank_entry
     by (inl l) = queue_at n queue k blank_entry l ∙ under_off (ltb k n) (get_or queue k blank_entry) (le-ltb k n h)
     by (inr g) = get_or-eq_default (tidy_queue n queue) blank_entry {n = k} (omega (arith, length_queue n queue))
+
+-- the queued entries, each tidied, and then blank ones
+pub queue_parts :
+    (n m : ℕ) (queue : List Entry) → length queue ≡ places → m ≡ min n places
+    → map tidy_entry (take m queue) ++ replicate (places - m) blank_entry ≡ tidy_queue n queue
+queue_parts n m queue l e =
+    ext_get_or blank_entry (kept ++ free) (tidy_queue n queue) (long ∙ sym (length_queue n queue))
+    (λ k h. let lt : k < places = omega (arith, long) in by k lt (below_or k m))
+  where
+    kept : List Entry
+    kept = map tidy_entry (take m queue)
+
+    free : List Entry
+    free = replicate (places - m) blank_entry
+
+    first : length (take m queue) ≡ m
+    first = length-take-le m queue (omega arith)
+
+    kept_long : length kept ≡ m
+    kept_long = length-map (take m queue) tidy_entry ∙ first
+
+    free_long : length free ≡ places - m
+    free_long = length-replicate (places - m) blank_entry
+
+    long : length (kept ++ free) ≡ places
+    long = length-append kept free ∙ omega (arith, kept_long, free_long)
+
+    by : (k : ℕ) → k < places → (k < m) ⊎ (m ≤ k) → get_or (kept ++ free) k blank_entry ≡ get_or (tidy_queue n queue) k blank_entry
+    by k h (inl b) =
+        get_or-append kept free blank_entry k (omega (arith, kept_long))
+        ∙ get_or-map tidy_entry (take m queue) k blank_entry blank_entry (omega (arith, first))
+        ∙ ap tidy_entry (get_or-take m queue k blank_entry b)
+        ∙ sym (under_on (ltb k n) (get_or queue k blank_entry) (lt-ltb k n (omega arith)))
+        ∙ sym (queue_at n queue k blank_entry h)
+    by k h (inr b) =
+        get_or-append_right kept free m k blank_entry kept_long b
+        ∙ get_or-replicate (places - m) (k - m) blank_entry blank_entry (omega arith)
+        ∙ sym (past_at n queue k (omega arith))
 
 -- ---- a tidied voice is blank where it must be
 
@@ -96,7 +136,8 @@ entries_blank n queue k = by (below_or k places)
         (sym (get_or-eq_default (tidy_queue n queue) blank_entry {n = k} (omega (arith, length_queue n queue)))) blank_is_blank
 
 ramp_blank :
-    (marks : List Bool) (ramp : List Float) (k : ℕ) → get_or marks (k / 4) false ≡ false → get_or (tidy_ramp marks ramp) k blank_gain ≡ blank_gain
+    (marks : List Bool) (ramp : List Float) (k : ℕ) → get_or marks (k / 4) false ≡ false
+    → get_or (tidy_ramp marks ramp) k blank_gain ≡ blank_gain
 ramp_blank marks ramp k off = by (below_or k 12)
   where
     by : (k < 12) ⊎ (12 ≤ k) → get_or (tidy_ramp marks ramp) k blank_gain ≡ blank_gain
@@ -113,23 +154,6 @@ tidied_blank v = record {
   biquad = λ off. cond_no v.filters.biquad default_biquad off;
   silent = λ off. under_off v.has_playing v.playing off;
   playing = λ on. under_blank v.has_playing v.playing;
-}
-
-all_same : {A : Type 0} (a : A) (n k : ℕ) → get_or (replicate n a) k a ≡ a
-all_same a zero k = refl
-all_same a (suc n) zero = refl
-all_same a (suc n) (suc k) = all_same a n k
-
-pub default_blank : Blank default_voice
-unfolding default_voice
-default_blank = record {
-  entries = λ k h. let bad : ⊥ = omega arith in absurd bad;
-  places = λ k h. all_same blank_entry places k;
-  ramp = λ k off. all_same blank_gain 12 k;
-  simple = λ off. refl;
-  biquad = λ off. refl;
-  silent = λ off. refl;
-  playing = λ on. blank_is_blank;
 }
 
 -- ---- a voice that is blank where it must be is left alone

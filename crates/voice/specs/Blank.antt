@@ -47,7 +47,8 @@ default_voice =
       enabled = false;
       sync_count = 0;
       rate = +1;
-      kinds = record { format = Pcm16; interpolation = Polyphase };
+      format = Pcm16;
+      interpolation = Polyphase;
       stereo = false;
       filters = no_filters;
       gain = replicate 12 +0;

@@ -4,7 +4,7 @@ use Rattle.adpcm.specs.declared.History.{History}
 use Rattle.filters.specs.declared.state.Filters.{Filters}
 use Rattle.voice.specs.declared.record.Entry.{Entry}
 use Rattle.voice.specs.declared.record.Format.{Format}
-use Rattle.voice.specs.declared.record.Kinds.{Kinds}
+use Rattle.voice.specs.declared.record.Interpolation.{Interpolation}
 use Rattle.voice.specs.declared.record.Voice.{Voice}
 
 abbrev pub set_entry_address : ℕ → Entry → Entry
@@ -49,8 +49,11 @@ set_voice_sync_count x v = record v { sync_count = x }
 abbrev pub set_voice_rate : Float → Voice → Voice
 set_voice_rate x v = record v { rate = x }
 
-abbrev pub set_voice_kinds : Kinds → Voice → Voice
-set_voice_kinds x v = record v { kinds = x }
+abbrev pub set_voice_format : Format → Voice → Voice
+set_voice_format x v = record v { format = x }
+
+abbrev pub set_voice_interpolation : Interpolation → Voice → Voice
+set_voice_interpolation x v = record v { interpolation = x }
 
 abbrev pub set_voice_stereo : Bool → Voice → Voice
 set_voice_stereo x v = record v { stereo = x }

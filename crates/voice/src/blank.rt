@@ -1,8 +1,8 @@
 // What stands where something is off or empty, and a voice as it is before anything is set.
 ghost use Rattle.std.specs.Prelude.{◌≡◌, cond};
-ghost use Rattle.voice.specs.Blank.{blank_history, blank_entry, default_voice};
+ghost use Rattle.voice.specs.Blank.{default_voice};
 
-use crate::record::{Entry, Format, Interpolation, Kinds, Voice};
+use crate::record::{Entry, Format, Interpolation, Voice};
 use adpcm::History;
 use filters::state::Filters;
 
@@ -19,72 +19,38 @@ pub fn kept_if<T: Copy>(on: bool, value: T, blank: T) -> T
     if on { value } else { blank }
 }
 
-pub fn blank_history() -> History
-    ensures { result ≡ blank_history }
-{
-    History { yn1: 0, yn2: 0 }
-}
+impl Default for Voice {
+    ghost is_default = { λ v. v ≡ default_voice };
 
-#[tactic(auto, unfolding(crate::specs::Blank::blank_entry))]
-pub fn blank_entry() -> Entry
-    ensures { result ≡ blank_entry }
-{
-    Entry {
-        address: 0,
-        length: 0,
-        format: Format::Pcm8,
-        stereo: false,
-        looping: false,
-        id: 0,
-        has_adpcm: false,
-        adpcm: blank_history(),
-        from_queue: false,
-        play_position: 0,
-        has_played: false,
-    }
-}
-
-// What fills the unused places of an `ArrayVec` of entries.
-impl Default for Entry {
-    ghost is_default = { λ e. e ≡ blank_entry };
-
-    fn default() -> Entry {
-        blank_entry()
-    }
-}
-
-#[tactic(auto, unfolding(crate::specs::Blank::default_voice))]
-pub fn default_voice() -> Voice
-    ensures { result ≡ default_voice }
-{
-    Voice {
-        enabled: false,
-        sync_count: 0,
-        rate: 1.0,
-        kinds: Kinds {
+    #[tactic(auto, unfolding(crate::specs::Blank::blank_entry, crate::specs::Blank::default_voice))]
+    fn default() -> Voice {
+        Voice {
+            enabled: false,
+            sync_count: 0,
+            rate: 1.0,
             format: Format::Pcm16,
             interpolation: Interpolation::Polyphase,
-        },
-        stereo: false,
-        filters: Filters::default(),
-        gain: [0.0; 12],
-        has_ramp: [false; 3],
-        ramp: [0.0; 12],
-        coefficients: [0; 16],
-        history: blank_history(),
-        queue: [blank_entry(); PLACES],
-        queued: 0,
-        has_playing: false,
-        playing: blank_entry(),
-        decoded: 0,
-        remaining: 0,
-        length: 0,
-        fraction: 0.0,
-        current_buffer_id: 0,
-        last_buffer_id: 0,
-        buffer_update: false,
-        position: 0,
-        frame: [0; 320],
-        ran_out_at_frame_end: false,
+            stereo: false,
+            filters: Filters::default(),
+            gain: [0.0; 12],
+            has_ramp: [false; 3],
+            ramp: [0.0; 12],
+            coefficients: [0; 16],
+            history: History::default(),
+            queue: [Entry::default(); PLACES],
+            queued: 0,
+            has_playing: false,
+            playing: Entry::default(),
+            decoded: 0,
+            remaining: 0,
+            length: 0,
+            fraction: 0.0,
+            current_buffer_id: 0,
+            last_buffer_id: 0,
+            buffer_update: false,
+            position: 0,
+            frame: [0; 320],
+            ran_out_at_frame_end: false,
+        }
     }
 }

@@ -16,8 +16,8 @@ pub fn is_adpcm(format: Format) -> bool
 
 // An ADPCM entry that is longer than the lane.
 #[tactic(auto, unfolding(crate::specs::Long::too_long))]
-pub fn too_long(e: Entry, lane: usize) -> bool
-    ensures { result ≡ too_long lane e }
+pub fn too_long(e: &Entry, lane: usize) -> bool
+    ensures { result ≡ too_long lane e.now }
 {
     e.format == Format::Adpcm && e.length as usize > lane
 }
@@ -26,12 +26,12 @@ pub fn too_long(e: Entry, lane: usize) -> bool
 pub fn any_too_long(entries: &[Entry], lane: usize) -> bool
     ensures { result ≡ any_too_long lane entries.now }
 {
-    entries.iter().any(|e| too_long(*e, lane))
+    entries.iter().any(|e| too_long(e, lane))
 }
 
 #[tactic(auto, unfolding(crate::specs::Malformed::malformed))]
-pub fn malformed(v: Voice, lane: usize) -> bool
-    ensures { result ≡ malformed lane v }
+pub fn malformed(v: &Voice, lane: usize) -> bool
+    ensures { result ≡ malformed lane v.now }
 {
     v.queued > LIMIT
         || v.remaining > v.length

@@ -4,8 +4,9 @@ use crate::blank::PLACES;
 use adpcm::History;
 use filters::state::Filters;
 
-#[derive(Clone, Copy, PartialEq, Eq)]
+#[derive(Clone, Copy, PartialEq, Eq, Default)]
 pub enum Format {
+    #[default]
     Pcm8,
     Pcm16,
     Adpcm,
@@ -21,7 +22,7 @@ pub enum Interpolation {
 
 // An entry of the queue, the source's `Buffer`. The fields stand by their sizes, so that there are no gaps between them: entries are most
 // of a record, and a record is copied often.
-#[derive(Clone, Copy)]
+#[derive(Clone, Copy, Default)]
 pub struct Entry {
     pub address: u32,
     pub length: u32,
@@ -37,19 +38,15 @@ pub struct Entry {
     pub has_played: bool,
 }
 
-// The two enums of a voice.
-#[derive(Clone, Copy)]
-pub struct Kinds {
-    pub format: Format,
-    pub interpolation: Interpolation,
-}
-
+// That no more is queued than the limit and no more remains than the length are no ghost facts of it: a lent record may be malformed,
+// which document 01's number 7 refuses.
 #[derive(Clone, Copy)]
 pub struct Voice {
     pub enabled: bool,
     pub sync_count: u16,
     pub rate: f64,
-    pub kinds: Kinds,
+    pub format: Format,
+    pub interpolation: Interpolation,
     pub stereo: bool,
     // each filter with its mark beside it, as document 01's record has them
     pub filters: Filters,

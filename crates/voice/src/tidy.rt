@@ -2,34 +2,42 @@
 ghost use Rattle.std.specs.Prelude.{◌≡◌};
 ghost use Rattle.voice.specs.Tidy.{tidy_entry, tidy_under, tidy_queue, tidy_ramp, tidy_filters, tidied};
 
-use crate::blank::{PLACES, blank_entry, blank_history, kept_if};
+use crate::blank::{PLACES, kept_if};
 use crate::record::{Entry, Voice};
+use adpcm::History;
 use filters::state::{BiquadFilter, Filters, SimpleFilter};
 
+// An entry: its history is blank where the mark of that is off.
 #[tactic(auto, unfolding(crate::specs::Tidy::tidy_entry))]
-pub fn tidy_entry(e: Entry) -> Entry
-    ensures { result ≡ tidy_entry e }
+pub fn tidy_entry(e: &mut Entry)
+    ensures { e.new ≡ tidy_entry e.old }
 {
-    let mut t = e;
-    t.adpcm = kept_if(e.has_adpcm, e.adpcm, blank_history());
-    t
+    if !e.has_adpcm {
+        e.adpcm = History::default();
+    }
 }
 
 // An entry under a mark.
-#[tactic(auto, unfolding(crate::specs::Tidy::tidy_under))]
-pub fn tidy_under(on: bool, e: Entry) -> Entry
-    ensures { result ≡ tidy_under on e }
+#[tactic(auto, unfolding(crate::specs::Tidy::tidy_under, crate::specs::Blank::blank_entry))]
+pub fn tidy_under(on: bool, e: &mut Entry)
+    ensures { e.new ≡ tidy_under on e.old }
 {
-    kept_if(on, tidy_entry(e), blank_entry())
+    if on {
+        tidy_entry(e);
+    } else {
+        *e = Entry::default();
+    }
 }
 
-// The entries that are queued stay, and the places behind them are blank.
+// The entries that are queued stay, and the places behind them are blank. A record that was lent may have more queued than places.
 fn tidy_queue(queue: &mut [Entry; PLACES], queued: usize)
     ensures { queue.new ≡ tidy_queue queued queue.old }
 {
-    for (place, e) in queue.iter_mut().enumerate() {
-        *e = tidy_under(place < queued, *e);
+    let (kept, free) = queue.split_at_mut(queued.min(PLACES));
+    for e in kept.iter_mut() {
+        tidy_entry(e);
     }
+    free.fill(Entry::default());
 }
 
 // The ramps by the marks of their mixes, four numbers to a mix.
@@ -42,25 +50,23 @@ fn tidy_ramp(ramp: &mut [f32; 12], marks: [bool; 3])
 }
 
 #[tactic(auto, unfolding(crate::specs::Tidy::tidy_filters))]
-pub fn tidy_filters(f: Filters) -> Filters
-    ensures { result ≡ tidy_filters f }
+pub fn tidy_filters(f: &mut Filters)
+    ensures { f.new ≡ tidy_filters f.old }
 {
-    Filters {
-        has_simple: f.has_simple,
-        simple: kept_if(f.has_simple, f.simple, SimpleFilter::default()),
-        has_biquad: f.has_biquad,
-        biquad: kept_if(f.has_biquad, f.biquad, BiquadFilter::default()),
+    if !f.has_simple {
+        f.simple = SimpleFilter::default();
+    }
+    if !f.has_biquad {
+        f.biquad = BiquadFilter::default();
     }
 }
 
 #[tactic(auto, unfolding(crate::specs::Tidy::tidied))]
-pub fn tidy(v: Voice) -> Voice
-    ensures { result ≡ tidied v }
+pub fn tidy(v: &mut Voice)
+    ensures { v.new ≡ tidied v.old }
 {
-    let mut w = v;
-    tidy_queue(&mut w.queue, w.queued);
-    tidy_ramp(&mut w.ramp, w.has_ramp);
-    w.filters = tidy_filters(w.filters);
-    w.playing = tidy_under(w.has_playing, w.playing);
-    w
+    tidy_queue(&mut v.queue, v.queued);
+    tidy_ramp(&mut v.ramp, v.has_ramp);
+    tidy_filters(&mut v.filters);
+    tidy_under(v.has_playing, &mut v.playing);
 }

@@ -8,8 +8,8 @@ use numbers::sizes::MIXES;
 use voice::record::Voice;
 
 // Adds a voice's frame to the mixes, where it is enabled.
-pub fn mix_into(v: Voice, mixes: &mut [i32; MIXES])
-    ensures { mixes.new ≡ mixed_with (parts_of v) mixes.old }
+pub fn mix_into(v: &Voice, mixes: &mut [i32; MIXES])
+    ensures { mixes.new ≡ mixed_with (parts_of v.now) mixes.old }
 {
     if v.enabled {
         mix_voice(mixes, &v.frame, &v.gain, &v.ramp, v.has_ramp);

@@ -17,7 +17,7 @@ use window::Window;
 // So many samples of a frame through the filters, which are left as they then are.
 fn pass(given: Filters, frame: &mut [i16; FRAME], produced: usize) -> Filters
     requires filters_in_range { T (filters_in_range given) }
-    requires produced_le_frame_samples { produced ≤ FRAME_SAMPLES }
+    requires within_frame { produced ≤ FRAME_SAMPLES }
     ensures frame { frame.new ≡ passed_from 0 given (take (produced * 2) frame.old) ++ drop (produced * 2) frame.old }
     ensures filters { result ≡ filters_after 0 given (take (produced * 2) frame.old) }
 {
@@ -26,19 +26,20 @@ fn pass(given: Filters, frame: &mut [i16; FRAME], produced: usize) -> Filters
 }
 
 // Plays an enabled voice's frame, and has what was produced filtered. A voice that is not enabled stays as it is.
-pub fn sound(v: Voice, window: Window<'_>, lane: &mut [i16]) -> Voice
-    requires well_formed { WellFormed (length lane.old) v }
-    requires lane_len_bound { length lane.old ≤ most_samples }
-    ensures record { result ≡ sounding window.entry.bytes.now window.entry.base v lane.old }
-    ensures lane { lane.new ≡ sounding_lane window.entry.bytes.now window.entry.base v lane.old }
+// That the record is well-formed for the lane, and the lane's bound, are asked for and no facts of a type: they hold between a record and a
+// lane of variable length, document 01's record may be malformed, and a ghost fact of a struct that holds a `&mut` is not covered.
+pub fn sound(v: &mut Voice, window: Window<'_>, lane: &mut [i16])
+    requires well_formed { WellFormed (length lane.old) v.old }
+    requires short_lane { length lane.old ≤ most_samples }
+    ensures record { v.new ≡ sounding window.entry.bytes.now window.entry.base v.old lane.old }
+    ensures lane { lane.new ≡ sounding_lane window.entry.bytes.now window.entry.base v.old lane.old }
 {
     if !v.enabled {
-        return v;
+        return;
     }
-    let played = play_frame(v, window, lane);
-    let mut w = played.voice;
-    if w.filters.has_simple || w.filters.has_biquad {
-        w.filters = pass(w.filters, &mut w.frame, played.produced);
+    let played = play_frame(*v, window, lane);
+    *v = played.voice;
+    if v.filters.has_simple || v.filters.has_biquad {
+        v.filters = pass(v.filters, &mut v.frame, played.produced);
     }
-    w
 }

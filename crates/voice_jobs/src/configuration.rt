@@ -10,8 +10,9 @@ use voice::tidy::tidy;
 
 // Reads the record and writes it back as serving leaves it: what `configure` does besides configuring.
 pub fn record(lane: usize, bytes: &mut [u8; RECORD]) -> Result<(), Refusal> {
-    let v = formed_record(bytes, lane)?;
-    put_record(tidy(v), bytes);
+    let mut v = formed_record(bytes, lane)?;
+    tidy(&mut v);
+    put_record(&v, bytes);
     Ok(())
 }
 
@@ -25,12 +26,13 @@ pub fn configure(
 ) -> Result<(), Refusal> {
     let v = formed_record(bytes, lane)?;
     match configured(v, configuration, coefficients, lane) {
-        Ok(after) => {
-            put_record(tidy(after), bytes);
+        Ok(mut after) => {
+            tidy(&mut after);
+            put_record(&after, bytes);
             Ok(())
         }
         Err(refusal) => {
-            put_record(v, bytes);
+            put_record(&v, bytes);
             Err(refusal)
         }
     }

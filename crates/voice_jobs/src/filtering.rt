@@ -26,6 +26,6 @@ pub fn filter(count: usize, bytes: &mut [u8; RECORD]) -> bool
     if !filters_in_range(v.filters) {
         return false;
     }
-    put_record(filtered(v, count), bytes);
+    put_record(&filtered(v, count), bytes);
     true
 }

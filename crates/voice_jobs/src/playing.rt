@@ -23,8 +23,10 @@ fn heard(played: Played) -> Voice {
 
 // Plays one frame. Refuses a lane of more than 65,536 samples, and a record that is malformed for the lane.
 pub fn play(bytes: &mut [u8; RECORD], window: Window<'_>, lane: &mut [i16]) -> Result<(), Refusal> {
-    let v = served_record(bytes, lane.len())?;
-    let played = play_frame(v, window, lane);
-    put_record(tidy(heard(played)), bytes);
+    let given = served_record(bytes, lane.len())?;
+    let played = play_frame(given, window, lane);
+    let mut v = heard(played);
+    tidy(&mut v);
+    put_record(&v, bytes);
     Ok(())
 }

@@ -19,38 +19,38 @@ use fields::config::CONFIG_SIZE;
 use fields::status::STATUS_SIZE;
 use numbers::sizes::MIXES;
 use refusals::Refusal;
+use settings::steps::COEFFICIENT_BYTES;
 use stems::Fixed;
 use voice::record::Voice;
 use voice_frame::serve::serve;
 use window::Window;
 
-// The bytes of a voice's coefficients.
-const COEFFICIENTS: usize = 32;
-
 // A voice's coefficients, which stand at a place of a region.
-fn coefficients_at(region: &[u8], at: usize) -> [u8; COEFFICIENTS]
+fn coefficients_at(region: &[u8], at: usize) -> [u8; COEFFICIENT_BYTES]
     requires { at + coefficient_bytes ≤ length region.now }
     ensures { result ≡ part at coefficient_bytes region.now }
 {
-    *region[at..at + COEFFICIENTS]
-        .first_chunk::<COEFFICIENTS>()
+    *region[at..at + COEFFICIENT_BYTES]
+        .first_chunk::<COEFFICIENT_BYTES>()
         .unwrap()
 }
 
 // Serves a voice's frame on its own parts, whose lengths are those of the arrays that a frame takes.
+// That the record is well-formed for the lane, and the lane's bound, are asked for and no facts of a type: they hold between a record and a
+// lane of variable length, document 01's record may be malformed, and a ghost fact of a struct that holds a `&mut` is not covered.
 fn serve_parts(
     v: Voice,
     lane: &mut [i16],
     bytes: &mut [u8],
-    coefficients: &[u8; COEFFICIENTS],
+    coefficients: &[u8; COEFFICIENT_BYTES],
     window: Window<'_>,
     mixes: &mut [i32; MIXES],
     report: &mut [u8],
 ) -> Result<Voice, Refusal>
     requires well_formed { WellFormed (length lane.old) v }
-    requires lane_len_bound { length lane.old ≤ most_samples }
-    requires bytes_len { length bytes.old ≡ total configuration }
-    requires report_len { length report.old ≡ total status }
+    requires short_lane { length lane.old ≤ most_samples }
+    requires whole_configuration { length bytes.old ≡ total configuration }
+    requires whole_status { length report.old ≡ total status }
     ensures number { code result ≡ number_of (voice_frame
         (fed v lane.old bytes.old coefficients.now window.entry.bytes.now window.entry.base)) }
     ensures record { result_unwrap_or result v ≡ voice_after (voice_frame
@@ -98,7 +98,7 @@ pub fn serve_in(
         read.old other.old window.now lanes.old) }
 {
     let l = fixed.layout;
-    let place = l.coefficients as usize + COEFFICIENTS * i;
+    let place = l.coefficients as usize + COEFFICIENT_BYTES * i;
     let coefficients = coefficients_at(read, place);
     let start = l.configurations as usize + CONFIG_SIZE * i;
     let told = l.statuses as usize + STATUS_SIZE * i;

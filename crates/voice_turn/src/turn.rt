@@ -18,6 +18,7 @@ use stems::Fixed;
 use voice::record::Voice;
 
 // Serves voice i's frame, or refuses the voice, by the region that is read.
+// That the record is well-formed for its lane is asked for and no fact of a type, which could not hold the lent lanes beside the record.
 // Memory is lent thing by thing: a struct of `&mut` would need in each contract, beside what each thing becomes, that it is the same loan.
 fn serve_by(
     v: Voice,
@@ -30,7 +31,7 @@ fn serve_by(
     lanes: &mut [i16],
     mixes: &mut [i32; MIXES],
 ) -> Result<Voice, Refusal>
-    requires i_bound { i < VOICES }
+    requires a_voice { i < VOICES }
     requires well_formed { WellFormed (lane_length (length lanes.old)) v }
     requires fitting { Fitting fixed (length region0.old) (length region1.old) (length window.now) (length lanes.old) MIXES }
     ensures number { code result ≡ number_of (answer_to fixed (is_second read) i v
@@ -66,7 +67,7 @@ pub fn take_turn(
     lanes: &mut [i16],
     mixes: &mut [i32; MIXES],
 ) -> Result<(), Refusal>
-    requires i_bound { i < VOICES }
+    requires a_voice { i < VOICES }
     requires well_formed { WellFormed (lane_length (length lanes.old)) v.old }
     requires fitting { Fitting fixed (length region0.old) (length region1.old) (length window.now) (length lanes.old) MIXES }
     ensures number { code result ≡ number_of (answer_to fixed (is_second read) i v.old

@@ -11,41 +11,36 @@ use lib.ListN.{length}
 use Rattle.std.specs.Prelude.{Result, Ok, Err}
 use Rattle.arrayvec.specs.ArrayVec.{ArrayVec}
 use Rattle.refusals.specs.declared.Refusal.{Refusal as Reason}
-use Rattle.refusals.specs.Numbers.{number, number_of}
-use Rattle.refusals.proofs.Numbers.{positive}
+use Rattle.refusals.specs.Numbers.{number}
 use Rattle.lists.specs.Some.{some}
 use Rattle.lists.proofs.Bools.{passed}
 use Rattle.voice.specs.Malformed.{malformed}
 use Rattle.voice.specs.declared.record.Voice.{Voice}
-use Rattle.stems.specs.Call.{second_read, lengths, or_else, whole_number, called}
-use Rattle.stems.specs.Call.{all_voices}
-use Rattle.stems.specs.Memory.{Memory, Lent, lane_length}
+use Rattle.stems.specs.Call.{second_read, lengths, or_else, whole_number, called, all_voices}
+use Rattle.stems.specs.Memory.{Lent, lane_length}
 use Rattle.stems.specs.Inner.{Long}
 use Rattle.stems.specs.Whole.{leaves, refusals}
 use Rattle.stems.specs.declared.Fixed.{Fixed}
 use Rattle.stems.proofs.Orders.{order}
 use Rattle.stems.proofs.Turns.{all_waiting, turns_long}
 use Rattle.stems.proofs.Whole.{every_order_long, refusals_order}
-use Rattle.calls.specs.Refused.{refusals_of, given}
+use Rattle.calls.specs.Refused.{refusals_of}
 use Rattle.calls.specs.Begin.{second_of, lengths_code}
 use Rattle.calls.specs.Lent.{lent}
 use Rattle.calls.specs.declared.refused.RefusedVoice.{RefusedVoice}
 use Rattle.turns.specs.Turns.{State, LongAt}
-use Rattle.turns.proofs.Begun.{first_not_0, each_formed, room, all_voices_lem}
+use Rattle.turns.proofs.Begun.{each_formed, room, all_voices_lem}
+use Rattle.turns.proofs.Contract.{no_refusals, refused_by_lengths, refused_later, served}
 use Rattle.turns.proofs.Turns.{memory_of}
 use Rattle.voices.specs.Inner.{AllFormed}
 use Rattle.voices.specs.Tick.{left, RefusedBy, Ensured}
 use Rattle.voices.proofs.Turns.{st, after, in_turn_lem}
 
+-- of both calls: `leaves` and `leaves_alone` are two definitions, and a lemma over both would say no more than these lines
 stays : (n : ℕ) (fx : Fixed) (x : Lent) → (n ≡ 0 → ⊥) → leaves n fx x ≡ x
 unfolding leaves
 stays zero fx x h = absurd (h refl)
 stays (suc n) fx x h = refl
-
-none_listed : (n : ℕ) (fx : Fixed) (x : Lent) → (n ≡ 0 → ⊥) → refusals n fx x all_voices ≡ []
-unfolding refusals
-none_listed zero fx x h = absurd (h refl)
-none_listed (suc n) fx x h = refl
 
 module _ (fx : Fixed) (r0 r1 w : List ℕ) (ys : List Voice) (lanes mixes : List ℤ) where
   abbrev x : Lent
@@ -61,43 +56,29 @@ module _ (fx : Fixed) (r0 r1 w : List ℕ) (ys : List Voice) (lanes mixes : List
   abbrev seven : ℕ
   seven = cond bad 7 0
 
-  -- what is ensured
-  abbrev pub Leaves : Result (ArrayVec RefusedVoice) Reason → List Voice → List ℕ → List ℕ → List ℤ → List ℤ → Type 0
-  Leaves r zs s0 s1 ls ms = Ensured fx x r (lent s0 s1 w zs ls ms)
-
   number_is : whole_number fx x ≡ or_else code seven
   unfolding whole_number lengths
   number_is = refl
 
   -- ---- refused as a whole
 
-  refused_with : (e : Reason) → number e ≡ whole_number fx x → (r : Result (ArrayVec RefusedVoice) Reason) → r ≡ Err e
-      → Leaves r ys r0 r1 lanes mixes
-  refused_with e is r at =
-      let not0 : whole_number fx x ≡ 0 → ⊥ = λ z. omega (arith, positive e, is, z) in
-      let same : x ≡ left fx x = sym (stays (whole_number fx x) fx x not0) in (
-        ap number_of at ∙ is,
-        ap (λ (y : Lent). y.memory.records) same,
-        ap (λ (y : Lent). y.memory.region0) same,
-        ap (λ (y : Lent). y.memory.region1) same,
-        ap (λ (y : Lent). y.memory.lanes) same,
-        ap (λ (y : Lent). y.mixes) same,
-        record {
-          order = all_voices;
-          each_once = Permᴰ.refl all_voices;
-          is = ap given at ∙ sym (none_listed (whole_number fx x) fx x not0);
-        },
-      )
+  untouched : (whole_number fx x ≡ 0 → ⊥) → x ≡ left fx x
+  untouched h = sym (stays (whole_number fx x) fx x h)
 
-  pub refused_call : (e : Reason) → number e ≡ code → (r : Result (ArrayVec RefusedVoice) Reason) → r ≡ Err e
-      → Leaves r ys r0 r1 lanes mixes
-  refused_call e is =
-      refused_with e
-      (is ∙ sym (number_is ∙ first_not_0 code seven (λ z. omega (arith, positive e, is, z))))
+  none_listed : (whole_number fx x ≡ 0 → ⊥) → RefusedBy fx x []
+  none_listed h = record {
+    order = all_voices;
+    each_once = Permᴰ.refl all_voices;
+    is = sym (no_refusals (whole_number fx x) fx x all_voices h);
+  }
+
+  pub refused_call : (e : Reason) → number e ≡ code → (r : Result (ArrayVec RefusedVoice) Reason) → r ≡ Err e → Ensured fx x r x
+  refused_call =
+      refused_by_lengths (whole_number fx x) (left fx x) (RefusedBy fx x) x untouched none_listed code seven number_is
 
   pub malformed_call : (e : Reason) → code ≡ 0 → number e ≡ seven → (r : Result (ArrayVec RefusedVoice) Reason) → r ≡ Err e
-      → Leaves r ys r0 r1 lanes mixes
-  malformed_call e zero_is is = refused_with e (is ∙ sym (number_is ∙ ap (λ (n : ℕ). or_else n seven) zero_is))
+      → Ensured fx x r x
+  malformed_call = refused_later (whole_number fx x) (left fx x) (RefusedBy fx x) x untouched none_listed code seven number_is
 
   -- ---- served
 
@@ -157,13 +138,6 @@ module _ (fx : Fixed) (r0 r1 w : List ℕ) (ys : List Voice) (lanes mixes : List
 
       pub served_call : (refused : ArrayVec RefusedVoice) (zs : List Voice) (s0 s1 : List ℕ) (ls ms : List ℤ)
           → refusals_of refused.items ≡ last.refused → zs ≡ last.voices → s0 ≡ last.region0 → s1 ≡ last.region1 → ls ≡ last.lanes
-          → ms ≡ last.mixes → Leaves (Ok refused) zs s0 s1 ls ms
-      served_call refused zs s0 s1 ls ms er ez e0 e1 el em = (
-        sym number_0,
-        ez ∙ ap (λ (y : Memory). y.records) memory_is,
-        e0 ∙ ap (λ (y : Memory). y.region0) memory_is,
-        e1 ∙ ap (λ (y : Memory). y.region1) memory_is,
-        el ∙ ap (λ (y : Memory). y.lanes) memory_is,
-        em ∙ mixes_are,
-        subst (RefusedBy fx x) (sym er) refused_are,
-      )
+          → ms ≡ last.mixes → Ensured fx x (Ok refused) (lent s0 s1 w zs ls ms)
+      served_call =
+          served (whole_number fx x) (left fx x) (RefusedBy fx x) fx w last memory_is mixes_are refused_are number_0

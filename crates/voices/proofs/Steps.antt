@@ -5,25 +5,13 @@ use mathlib.Core.List.{List}
 use Prim.Native.Nat.{ℕ, ◌+◌, ◌<◌, ◌≤◌}
 use native.Mathlib.Decide.{dec_lt}
 use native.Mathlib.Omega.{arith}
-use lib.IntN.{ℤ}
-use lib.ListN.{length, set, get_or}
+use lib.ListN.{set, get_or}
 use lib.Seq.{get_or-set_other}
 use Rattle.voice.specs.Blank.{default_voice}
-use Rattle.voice.specs.Malformed.{WellFormed}
 use Rattle.voice.specs.declared.record.Voice.{Voice}
 use Rattle.numbers.specs.Sizes.{MIXES}
-use Rattle.stems.specs.Memory.{lane_length}
 use Rattle.stems.specs.declared.Fixed.{Fixed}
 use Rattle.calls.specs.Begin.{Fitting}
-use Rattle.voices.specs.Inner.{AllFormed}
-
--- the record at hand is as it was lent
-pub formed_now :
-    (ys zs : List Voice) (was lanes : List ℤ) (i : ℕ) → length lanes ≡ length was → get_or zs i default_voice ≡ get_or ys i default_voice
-    → i < length ys → AllFormed (lane_length (length was)) ys → WellFormed (lane_length (length lanes)) (get_or zs i default_voice)
-formed_now ys zs was lanes i l e h ok =
-    subst (λ (n : ℕ). WellFormed (lane_length n) (get_or zs i default_voice)) (sym l)
-    (subst (WellFormed (lane_length (length was))) (sym e) (ok i h))
 
 pub fitting_now :
     (fx : Fixed) (a a' b b' w l l' : ℕ) → a' ≡ a → b' ≡ b → l' ≡ l → Fitting fx a b w l MIXES → Fitting fx a' b' w l' MIXES

@@ -69,7 +69,8 @@ module _ (fx : Fixed) (w : List ℕ) where
     after (suc i) h = one_more i (omega arith) (after i (omega arith))
 
     -- each voice in its turn
-    pub in_turn_lem : Fits fx (lengths m) → ((j : ℕ) → j < 24 → LongAt fx w second j (st j)) → (i : ℕ) → i ≤ 24 → Turns fx second (up_to i) m
+    pub in_turn_lem : Fits fx (lengths m) → ((j : ℕ) → j < 24 → LongAt fx w second j (st j))
+        → (i : ℕ) → i ≤ 24 → Turns fx second (up_to i) m
     unfolding up_to Turns
     in_turn_lem f long zero h = tt
     in_turn_lem f long (suc i) h =

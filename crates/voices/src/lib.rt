@@ -15,7 +15,7 @@ ghost use Rattle.voices.specs.Inner.{AllFormed, ticked};
 ghost use Rattle.voices.specs.Tick.{Ensured};
 
 use calls::begin::begin;
-use calls::refusal::{accept_lengths, accept_records};
+use calls::refusal::{accept_lent, accept_records};
 use calls::refused::{Refused, VOICES, note};
 use numbers::sizes::MIXES;
 use refusals::Refusal;
@@ -23,7 +23,7 @@ use stems::Fixed;
 use turns::serve_at;
 use voice::record::Voice;
 
-// Begins the call, and gives each voice its turn, voice 0 first.
+// Begins the call, and gives each voice its turn, voice 0 first. Memory is lent thing by thing, as `turns` takes it.
 fn serve_all(
     voices: &mut [Voice],
     fixed: Fixed,
@@ -78,15 +78,7 @@ pub fn tick(
         result (lent region0.new region1.new window.now
         voices.new lanes.new mixes.new) }
 {
-    accept_lengths(
-        fixed,
-        voices.len(),
-        region0.len(),
-        region1.len(),
-        window.len(),
-        lanes.len(),
-        mixes.len(),
-    )?;
+    accept_lent(fixed, voices, region0, region1, window, lanes, mixes)?;
     accept_records(voices, lanes.len())?;
     let mixes = mixes.as_mut_array::<MIXES>().unwrap();
     Ok(serve_all(voices, fixed, region0, region1, window, lanes, mixes))

@@ -10,7 +10,7 @@ ghost use Rattle.window.specs.Window.{present_in, look_up, window_number};
 use refusals::Refusal;
 
 // One more than the last 32-bit address.
-const ADDRESSES: usize = 4294967296;
+pub const ADDRESSES: usize = 4294967296;
 
 // Lent bytes, the first of which has the address `base`.
 #[derive(Clone, Copy)]

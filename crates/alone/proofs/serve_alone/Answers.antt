@@ -1,7 +1,7 @@
 -- `alone::serve_alone` meets its contract: the call begins, and the voice has its turn. Assumes nothing.
 use Rattle.std.proofs.Common.{◌≡◌, [], ap, ◌∙◌}
 use Rattle.turns.proofs.Begun.{counted}
-use Rattle.turns.specs.Turns.{State, serve_one}
+use Rattle.turns.specs.Turns.{State, beginning, serve_one}
 use Rattle.calls.specs.Begin.{is_second}
 use Rattle.calls.specs.Refused.{refusals_of, refused_after}
 use Rattle.alone.proofs.serve_alone.Goals as goal
@@ -16,22 +16,10 @@ returns c =
     let region = c.begin-read.ensures.region in
     let mixes = c.begin-read.ensures.mixes in
     -- the turn began with no mix value
-    let begun : serve_one a.fixed a.window.now (is_second c.begin-read.result) a.voice (record {
-      voices = a.voices.now;
-      region0 = a.region0.now;
-      region1 = a.region1.now;
-      lanes = a.lanes.now;
-      mixes = c.begin-read.new.mixes;
-      refused = [];
-    }) ≡ _ =
-    λ j. serve_one a.fixed a.window.now (region j) a.voice (record {
-      voices = a.voices.now;
-      region0 = a.region0.now;
-      region1 = a.region1.now;
-      lanes = a.lanes.now;
-      mixes = mixes j;
-      refused = [];
-    }) in
+    let start = beginning a.voices.now a.region0.now a.region1.now a.lanes.now in
+    let begun : serve_one a.fixed a.window.now (is_second c.begin-read.result) a.voice (record start { mixes = c.begin-read.new.mixes })
+    ≡ _ =
+    λ j. serve_one a.fixed a.window.now (region j) a.voice (record start { mixes = mixes j }) in
     let none : refusals_of c.new-refused.result.items ≡ [] = ap refusals_of c.new-refused.ensures in record {
       refused =
           c.note.ensures.items

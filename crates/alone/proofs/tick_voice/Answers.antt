@@ -6,12 +6,12 @@ use Rattle.turns.proofs.Begun.{room, fitting}
 use Rattle.alone.proofs.Contract.{refused_call, late_call, a_voice, lent_too, formed, served_call}
 use Rattle.alone.proofs.tick_voice.Goals as goal
 
-pub returns-in_err-accept_lengths : goal.returns-in_err-accept_lengths
-returns-in_err-accept_lengths c =
+pub returns-in_err-accept_lent : goal.returns-in_err-accept_lent
+returns-in_err-accept_lent c =
     let a = c.args in
     let p = err_from_is_err_and c.from_residual.result c.from_residual.ensures.1 in
     refused_call a.fixed a.voice a.region0.now a.region1.now a.window.now a.voices.now a.lanes.now a.mixes.now _
-    c.in_err-accept_lengths.ensures c.from_residual.result (p.1 ∙ ap Err p.2)
+    c.in_err-accept_lent.ensures c.from_residual.result (p.1 ∙ ap Err p.2)
 
 pub returns-in_err-accept_alone : goal.returns-in_err-accept_alone
 returns-in_err-accept_alone c =
@@ -19,18 +19,18 @@ returns-in_err-accept_alone c =
     let r = c.from_residual-in_err-accept_alone in
     let p = err_from_is_err_and r.result r.ensures.1 in
     late_call a.fixed a.voice a.region0.now a.region1.now a.window.now a.voices.now a.lanes.now a.mixes.now _
-    (sym c.in_ok-accept_lengths.ensures) c.in_err-accept_alone.ensures r.result (p.1 ∙ ap Err p.2)
+    (sym c.in_ok-accept_lent.ensures) c.in_err-accept_alone.ensures r.result (p.1 ∙ ap Err p.2)
 
 pub unwrap-mixes-requires : goal.unwrap-mixes-requires
 unwrap-mixes-requires c =
     let a = c.args in
     c.as_mut_array.ensures.variant.1
-    (room a.fixed a.region0.now a.region1.now a.window.now a.voices.now a.lanes.now a.mixes.now (sym c.in_ok-accept_lengths.ensures)).1
+    (room a.fixed a.region0.now a.region1.now a.window.now a.voices.now a.lanes.now a.mixes.now (sym c.in_ok-accept_lent.ensures)).1
 
 pub serve_alone-requires : goal.serve_alone-requires
 serve_alone-requires c =
     let a = c.args in
-    let code = sym c.in_ok-accept_lengths.ensures in
+    let code = sym c.in_ok-accept_lent.ensures in
     let late = sym c.in_ok-accept_alone.ensures in record {
       lent = lent_too a.fixed a.voice a.region0.now a.region1.now a.window.now a.voices.now a.lanes.now a.mixes.now code late;
       a_voice = a_voice a.fixed a.voice a.region0.now a.region1.now a.window.now a.voices.now a.lanes.now a.mixes.now code late;
@@ -44,6 +44,6 @@ returns c =
     let s = c.serve_alone in
     let e = s.ensures in
     served_call a.fixed a.voice a.region0.now a.region1.now a.window.now a.voices.now a.lanes.now a.mixes.now
-    (sym c.in_ok-accept_lengths.ensures) (sym c.in_ok-accept_alone.ensures)
+    (sym c.in_ok-accept_lent.ensures) (sym c.in_ok-accept_alone.ensures)
     s.result s.new.voices s.new.region0 s.new.region1 s.new.lanes s.new.mixes
     e.refused e.voices e.region0 e.region1 e.lanes e.mixes

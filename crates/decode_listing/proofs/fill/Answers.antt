@@ -1,6 +1,7 @@
 -- `decode_listing::fill` meets its contract: what one read put behind the bytes that came before is the next that the input gave up.
 -- Assumes nothing.
-use Rattle.std.proofs.Common.{◌≡◌, ℕ, ◌+◌, ◌≤◌, List, ◌++◌, length, take, drop, rules, ap, ◌∙◌, sym, subst, le_refl, drop_at, length-take-le}
+use Rattle.std.proofs.Common.{◌≡◌, ℕ, ◌+◌, ◌≤◌, List, ◌++◌, length, take, drop, rules, ap, ◌∙◌, sym, subst, le_refl, drop_at}
+use Rattle.std.proofs.Common.{length-take-le}
 use Rattle.std.proofs.lemmas.Slice.{take-put_mid_below}
 use Rattle.std.specs.Io.KnownBytes.{Consumes}
 use Rattle.std.proofs.KnownBytes.{Consumes-trans}
@@ -18,7 +19,8 @@ behind a k n xs ys within fits =
     front = take-put_mid_below _ _ _ _ _ (le_refl _) within
 
     part : take n (drop a (put_mid a k xs ys)) ≡ take n ys
-    part = ap (take n) (drop_at (take a xs) (ys ++ post_of a k xs) a (length-take-le a xs within)) ∙ take-append-le n ys (post_of a k xs) fits
+    part = ap (take n) (drop_at (take a xs) (ys ++ post_of a k xs) a (length-take-le a xs within))
+        ∙ take-append-le n ys (post_of a k xs) fits
 
 pub loop-got-preserved : goal.loop-got-preserved
 loop-got-preserved g c =

@@ -15,7 +15,7 @@ pub decode-requires-clause-count_le_most_samples : goal.decode-requires-clause-c
 decode-requires-clause-count_le_most_samples c =
     let w = c.args.window in
     let d : decodable w.bytes.now w.base c.args.e ≡ true = search rules in
-    omega (arith, c.requires.lane_len_bound, decodable_fits w.bytes.now w.base c.args.e (length c.args.lane.now) c.requires.entry_fits d)
+    omega (arith, c.requires.short_lane, decodable_fits w.bytes.now w.base c.args.e (length c.args.lane.now) c.requires.entry_fits d)
 
 pub decode-requires-clause-count_in_bounds : goal.decode-requires-clause-count_in_bounds
 decode-requires-clause-count_in_bounds c =

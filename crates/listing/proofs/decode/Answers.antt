@@ -1,60 +1,90 @@
--- `listing::decode` meets its contract: an input of the right length is not refused, and its samples come first. Assumes nothing.
-use mathlib.Core.Path.{◌≡◌, ap, ◌∙◌}
-use mathlib.Core.Bool.{false}
+-- `listing::decode` meets its contract: the decoder refuses exactly an input that is not complete. Assumes nothing.
+use mathlib.Core.Path.{◌≡◌, sym, ap, ◌∙◌}
+use mathlib.Core.Bool.{true, false}
 use mathlib.Core.List.{List, ◌++◌}
-use Prim.Native.Nat.{ℕ, ◌-◌}
+use mathlib.Core.Logic.{◌⊎◌, inl, inr, ⊎_elim}
+use Prim.Native.Nat.{ℕ, ◌+◌, ◌≤◌}
+use native.Mathlib.Decide.{ℕ_discrete}
 use native.Mathlib.Omega.{arith}
 use lib.IntN.{ℤ}
-use lib.ListN.{length, take, drop, length-drop}
-use lib.Seq.{take_all}
-use borrow.Author.Tests.{le-ltb, eq-eqb}
+use lib.ListN.{length, length-append}
+use borrow.Author.Rules.{rules}
+use borrow.Author.Tests.{eq-eqb, ne_eqb}
 use Rattle.std.proofs.lemmas.List.{append-nil}
-use Rattle.lists.proofs.Bools.{or_no, not_yes, cond_no}
+use Rattle.lists.proofs.Bools.{cond_yes, cond_no}
 use Rattle.lists.proofs.Walk.{drop_end}
 use Rattle.adpcm.specs.declared.History.{History}
 use Rattle.adpcm.specs.Decoded.{Decoded}
 use Rattle.adpcm.specs.Code.{decoded_samples, decoded_history}
 use Rattle.adpcm.specs.Adpcm.{sample_of, refused, decode_answer, decode_output}
-use Rattle.listing.specs.Sizes.{header, frame_bytes}
-use Rattle.listing.specs.Inner.{Whole}
-use Rattle.listing.specs.Listing.{coefficients_in, history_in, frames_in, samples_in, last_history_in}
-use Rattle.listing.proofs.Header.{same_coefficients, same_history}
+use Rattle.adpcm.proofs.Nine.{odd, well}
+use Rattle.listing.specs.Sizes.{header, most_samples, frame_bytes}
+use Rattle.listing.specs.Inner.{DecodesTo}
+use Rattle.listing.specs.Listing.{coefficients_in, history_in, count_in, complete, samples_in, last_history_in}
+use Rattle.listing.proofs.Header.{same_coefficients, same_history, same_count, same_frames}
 use Rattle.listing.proofs.decode.Goals as goal
 
-module _ (input frames : List ℕ) (cs : List ℤ) (h : History) (old : List ℤ) (w : Whole input (length old))
-    (ce : cs ≡ coefficients_in input) (he : h ≡ history_in input) (fe : frames ≡ frames_in input) where
-  filled : length frames ≡ frame_bytes (length old)
-  filled = ap length fe ∙ simp length-drop (omega (arith, w.long))
+abbrev number : Decoded → ℕ
+number d = d.number
 
-  served : refused (length frames) (length old) (length old) ≡ false
-  served =
-      or_no _ (le-ltb 65536 (length old) (omega (arith, w.few))) ∙ or_no _ (not_yes (eq-eqb _ _ filled))
-      ∙ le-ltb (length old) (length old) (omega arith)
+abbrev history : Decoded → History
+history d = d.history
 
-  samples_come : (out : List ℤ) → out ≡ decode_output cs h frames (length old) old → out ≡ samples_in input
-  unfolding samples_in
-  samples_come out o =
-      o ∙ cond_no _ _ served
-      ∙ ap (λ (l : List ℤ). decoded_samples sample_of cs h frames (length old) ++ l) (drop_end old (length old) (omega arith))
-      ∙ append-nil _
-      ∙ (λ j. decoded_samples sample_of (ce j) (he j) (fe j) (w.counted j))
+module _ (first frames : List ℕ) (h : length first ≡ header) (cs : List ℤ) (before : History) (old : List ℤ)
+    (ce : cs ≡ coefficients_in first) (be : before ≡ history_in first) (counted : length old ≡ count_in first)
+    (few : length old ≤ most_samples) where
+  same : length old ≡ count_in (first ++ frames)
+  same = counted ∙ same_count first frames h
 
-  history_comes : (new : History) → new ≡ (decode_answer cs h frames (length old) old).history → new ≡ last_history_in input
-  unfolding last_history_in
-  history_comes new a =
-      a ∙ ap (λ (d : Decoded). d.history) (cond_no _ _ served) ∙ (λ j. decoded_history sample_of (ce j) (he j) (fe j) (w.counted j))
+  -- the decoder's test and the input's, one of which is on where the other is off
+  abbrev Told : Type 0
+  Told =
+      ((refused (length frames) (length old) (length old) ≡ true) × (complete (first ++ frames) ≡ false))
+      ⊎ ((refused (length frames) (length old) (length old) ≡ false) × (complete (first ++ frames) ≡ true))
 
-pub returns : goal.returns
-returns c =
+  told : Told
+  told = elim (ℕ_discrete (length frames) (frame_bytes (length old))) [
+    | no e ↦ inl (odd _ _ _ (omega arith) e, ne_eqb _ _ (λ q. e (omega (arith, q, long, same))))
+    | yes e ↦ inr (well _ _ _ (omega arith) e (omega arith), eq-eqb _ _ (omega (arith, e, long, same)))
+  ]
+    where
+      long : length (first ++ frames) ≡ header + length frames
+      long = length-append first frames ∙ ap (λ (n : ℕ). n + length frames) h
+
+  nine : refused (length frames) (length old) (length old) ≡ true → number (decode_answer cs before frames (length old) old) ≡ 9
+  nine t = ap number (cond_yes _ _ t)
+
+  module _ (out : List ℤ) (last : History) (ok : number (decode_answer cs before frames (length old) old) ≡ 0)
+      (o : out ≡ decode_output cs before frames (length old) old)
+      (a : last ≡ history (decode_answer cs before frames (length old) old)) where
+    pub decoded : DecodesTo (first ++ frames) out last
+    unfolding samples_in last_history_in
+    decoded = ⊎_elim (λ t. absurd (omega (arith, ok, nine t.0))) served told
+      where
+        served : (refused (length frames) (length old) (length old) ≡ false) × (complete (first ++ frames) ≡ true)
+            → DecodesTo (first ++ frames) out last
+        served t = record {
+          whole = t.1;
+          made =
+              o ∙ cond_no _ _ t.0
+              ∙ ap (λ (l : List ℤ). decoded_samples sample_of cs before frames (length old) ++ l) (drop_end old (length old) (omega arith))
+              ∙ append-nil _
+              ∙ (λ j. decoded_samples sample_of (cse j) (bse j) (same_frames first frames h j) (same j));
+          after =
+              a ∙ ap history (cond_no _ _ t.0)
+              ∙ (λ j. decoded_history sample_of (cse j) (bse j) (same_frames first frames h j) (same j));
+        }
+          where
+            cse : cs ≡ coefficients_in (first ++ frames)
+            cse = ce ∙ same_coefficients first frames h
+
+            bse : before ≡ history_in (first ++ frames)
+            bse = be ∙ same_history first frames h
+
+pub returns-clause-decoded : goal.returns-clause-decoded
+returns-clause-decoded c =
     let a = c.args in
-    let b = a.bytes.now in
-    let w = c.requires in
-    let first = rw c.unwrap-header.ensures at c.first_chunk.ensures.cases in
-    let ce = c.coefficients-coefficients.ensures ∙ ap coefficients_in first.same ∙ same_coefficients b in
-    let he = c.history-history.ensures ∙ ap history_in first.same ∙ same_history b in
     let d = c.decode_adpcm in
-    let f : take (length b - header) (drop header b) ≡ drop header b = take_all (length b - header) (drop header b)
-    (simp length-drop (omega arith)) in record {
-      samples = samples_come b _ _ _ a.samples.now w ce he f d.new.samples d.ensures.output;
-      history = history_comes b _ _ _ a.samples.now w ce he f d.new.history d.ensures.history;
-    }
+    decoded a.header.now a.frames.now (search rules) c.coefficients-coefficients.result c.history-history.result a.samples.now
+    c.coefficients-coefficients.ensures c.history-history.ensures c.requires.counted c.requires.few d.new.samples d.new.history
+    (sym c.in_ok-decode_adpcm.ensures.answer) d.ensures.output d.ensures.history

@@ -18,7 +18,7 @@ byte_is false = refl
 pub returns : goal.returns
 unfolding splice status_of
 returns c =
-    let v = c.args.v in
+    let v = c.args.v.now in
     let enabled = c.from.ensures ∙ byte_is v.enabled in
     let updated = c.from-2.ensures ∙ byte_is v.buffer_update in
     c.write16-3.ensures

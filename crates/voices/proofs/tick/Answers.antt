@@ -5,12 +5,12 @@ use Rattle.turns.proofs.Begun.{room, all_voices_lem, fitting}
 use Rattle.voices.proofs.Contract.{refused_call, malformed_call, goes_on, served_call}
 use Rattle.voices.proofs.tick.Goals as goal
 
-pub returns-in_err-accept_lengths : goal.returns-in_err-accept_lengths
-returns-in_err-accept_lengths c =
+pub returns-in_err-accept_lent : goal.returns-in_err-accept_lent
+returns-in_err-accept_lent c =
     let a = c.args in
     let p = err_from_is_err_and c.from_residual.result c.from_residual.ensures.1 in
     refused_call a.fixed a.region0.now a.region1.now a.window.now a.voices.now a.lanes.now a.mixes.now _
-    c.in_err-accept_lengths.ensures c.from_residual.result (p.1 ∙ ap Err p.2)
+    c.in_err-accept_lent.ensures c.from_residual.result (p.1 ∙ ap Err p.2)
 
 pub returns-in_err-accept_records : goal.returns-in_err-accept_records
 returns-in_err-accept_records c =
@@ -18,31 +18,31 @@ returns-in_err-accept_records c =
     let r = c.from_residual-in_err-accept_records in
     let p = err_from_is_err_and r.result r.ensures.1 in
     malformed_call a.fixed a.region0.now a.region1.now a.window.now a.voices.now a.lanes.now a.mixes.now _
-    (sym c.in_ok-accept_lengths.ensures) c.in_err-accept_records.ensures r.result (p.1 ∙ ap Err p.2)
+    (sym c.in_ok-accept_lent.ensures) c.in_err-accept_records.ensures r.result (p.1 ∙ ap Err p.2)
 
 pub unwrap-mixes-requires : goal.unwrap-mixes-requires
 unwrap-mixes-requires c =
     let a = c.args in
     c.as_mut_array.ensures.variant.1
-    (room a.fixed a.region0.now a.region1.now a.window.now a.voices.now a.lanes.now a.mixes.now (sym c.in_ok-accept_lengths.ensures)).1
+    (room a.fixed a.region0.now a.region1.now a.window.now a.voices.now a.lanes.now a.mixes.now (sym c.in_ok-accept_lent.ensures)).1
 
 pub serve_all-requires-clause-lent : goal.serve_all-requires-clause-lent
 serve_all-requires-clause-lent c =
     let a = c.args in
     all_voices_lem a.fixed a.region0.now a.region1.now a.window.now a.voices.now a.lanes.now a.mixes.now
-    (sym c.in_ok-accept_lengths.ensures)
+    (sym c.in_ok-accept_lent.ensures)
 
 pub serve_all-requires-clause-formed : goal.serve_all-requires-clause-formed
 serve_all-requires-clause-formed c =
     let a = c.args in
     goes_on a.fixed a.region0.now a.region1.now a.window.now a.voices.now a.lanes.now a.mixes.now
-    (sym c.in_ok-accept_lengths.ensures) (sym c.in_ok-accept_records.ensures)
+    (sym c.in_ok-accept_lent.ensures) (sym c.in_ok-accept_records.ensures)
 
 pub serve_all-requires-clause-fitting : goal.serve_all-requires-clause-fitting
 serve_all-requires-clause-fitting c =
     let a = c.args in
     fitting a.fixed a.region0.now a.region1.now a.window.now a.voices.now a.lanes.now a.mixes.now
-    (sym c.in_ok-accept_lengths.ensures)
+    (sym c.in_ok-accept_lent.ensures)
 
 pub returns : goal.returns
 returns c =
@@ -50,6 +50,6 @@ returns c =
     let s = c.serve_all in
     let e = s.ensures in
     served_call a.fixed a.region0.now a.region1.now a.window.now a.voices.now a.lanes.now a.mixes.now
-    (sym c.in_ok-accept_lengths.ensures) (sym c.in_ok-accept_records.ensures) e.long
+    (sym c.in_ok-accept_lent.ensures) (sym c.in_ok-accept_records.ensures) e.long
     s.result s.new.voices s.new.region0 s.new.region1 s.new.lanes s.new.mixes
     e.refused e.voices e.region0 e.region1 e.lanes e.mixes

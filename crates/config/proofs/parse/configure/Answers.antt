@@ -35,10 +35,10 @@ module _ (bytes coefficients : List ℕ) (v w : Voice) (same_record : w ≡ sett
       let settled_fits = settled_room bytes limit coefficients v (record { fits = fits; queue = queue }) in
       subst (λ (u : Voice). u.queued ≤ limit) (sym same_record) settled_fits.queue
 
-  module _ (es : List Entry) (list : es ≡ added bytes w.kinds.format w.stereo) where
+  module _ (es : List Entry) (list : es ≡ added bytes w.format w.stereo) where
     same_entries : es ≡ to_add bytes coefficients v
     unfolding to_add
-    same_entries = list ∙ (λ j. added bytes (same_record j).kinds.format (same_record j).stereo)
+    same_entries = list ∙ (λ j. added bytes (same_record j).format (same_record j).stereo)
 
     record_is : pushed_all es w ≡ parsed bytes coefficients v
     unfolding parsed

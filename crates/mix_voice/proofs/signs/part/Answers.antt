@@ -53,24 +53,24 @@ module _ (g s : Float) (v : ℤ) (fit : SFits w16 v) (a : Around 63 g) (s_is : s
 
 pub is_sign_negative-negative-requires : goal.is_sign_negative-negative-requires
 is_sign_negative-negative-requires c =
-    number c.args.gain c.args.s c.args.sample c.ranges.sample c.requires.gain_value c.requires.s_value
+    number c.args.gain c.args.s c.args.sample c.ranges.sample c.requires.small c.requires.same_sample
 
 pub float_to_bits-t : goal.float_to_bits-t
 float_to_bits-t c =
     let n = c.is_sign_negative-negative in
-    sum_is_number c.args.gain c.args.s c.args.sample c.ranges.sample c.requires.gain_value c.requires.s_value n.result n.ensures
+    sum_is_number c.args.gain c.args.s c.args.sample c.ranges.sample c.requires.small c.requires.same_sample n.result n.ensures
     c.quarter_of.result c.quarter_of.ensures
 
 pub overflow_sub-result : goal.overflow_sub-result
 overflow_sub-result c =
     let n = c.is_sign_negative-negative in
-    fits c.args.gain c.args.s c.args.sample c.ranges.sample c.requires.gain_value c.requires.s_value n.result n.ensures
+    fits c.args.gain c.args.s c.args.sample c.ranges.sample c.requires.small c.requires.same_sample n.result n.ensures
     c.quarter_of.result c.quarter_of.ensures c.cast_signed.result c.base_of.result (record { sfits = c.cast_signed.type_inv })
     (record { sfits = c.base_of.type_inv }) c.cast_signed.ensures c.base_of.ensures
 
 pub returns : goal.returns
 returns c =
     let n = c.is_sign_negative-negative in
-    is c.args.gain c.args.s c.args.sample c.ranges.sample c.requires.gain_value c.requires.s_value n.result n.ensures
+    is c.args.gain c.args.s c.args.sample c.ranges.sample c.requires.small c.requires.same_sample n.result n.ensures
     c.quarter_of.result c.quarter_of.ensures c.cast_signed.result c.base_of.result (record { sfits = c.cast_signed.type_inv })
     (record { sfits = c.base_of.type_inv }) c.cast_signed.ensures c.base_of.ensures

@@ -137,7 +137,7 @@ loop-output-init c =
     let a = c.args in
     let told = c.play_left-first.ensures in
     let of = c.of.ensures in
-    begins a.window a.v a.lane.now a.frame.now c.requires.frame_value c.requires.well_formed (search rules) c.of.result
+    begins a.window a.v a.lane.now a.frame.now c.requires.silent c.requires.well_formed (search rules) c.of.result
     (record { is_window = of.window; is_lane = of.lane; is_track = of.track; is_cursor = of.cursor }) c.play_left-first.result
     c.play_left-first.new.frame told.none told.some told.frame
 
@@ -145,16 +145,16 @@ pub of-requires-in-loop-output-clause-remains : goal.of-requires-in-loop-output-
 of-requires-in-loop-output-clause-remains c =
     let l = c.loop-output in
     let d = c.in-Some.ensures in
-    (deq_formed c.args.window.bytes.now c.args.window.base _ _ l.lane l.frame l.w l.output l.invariant c.loop-output-test.true _ d.lane
+    (deq_formed c.args.window.bytes.now c.args.window.base _ _ l.lane l.frame l.v l.output l.invariant c.loop-output-test.true _ d.lane
     c.in-Some.x d.«record» (sym d.found)).remaining
 
 pub of-requires-in-loop-output-clause-in_lane : goal.of-requires-in-loop-output-clause-in_lane
 of-requires-in-loop-output-clause-in_lane c =
     let l = c.loop-output in
     let d = c.in-Some.ensures in
-    let formed = deq_formed c.args.window.bytes.now c.args.window.base _ _ l.lane l.frame l.w l.output l.invariant c.loop-output-test.true _
+    let formed = deq_formed c.args.window.bytes.now c.args.window.base _ _ l.lane l.frame l.v l.output l.invariant c.loop-output-test.true _
     d.lane c.in-Some.x d.«record» (sym d.found) in
-    let long = deq_long c.args.window.bytes.now c.args.window.base _ _ l.lane l.frame l.w l.output l.invariant c.loop-output-test.true _
+    let long = deq_long c.args.window.bytes.now c.args.window.base _ _ l.lane l.frame l.v l.output l.invariant c.loop-output-test.true _
     d.lane c.in-Some.x d.«record» (sym d.found) in
     omega (arith, long, formed.decoded)
 
@@ -163,7 +163,7 @@ loop-output-preserved c =
     let l = c.loop-output in
     let d = c.in-Some.ensures in
     let of = c.of-in-loop-output.ensures in
-    again c.args.window.bytes.now c.args.window.base _ _ l.lane l.frame l.w l.output l.invariant c.loop-output-test.true _ d.lane
+    again c.args.window.bytes.now c.args.window.base _ _ l.lane l.frame l.v l.output l.invariant c.loop-output-test.true _ d.lane
     c.in-Some.x d.«record» (sym d.found) c.of-in-loop-output.result c.play_entry-r.result c.play_entry-r.new.frame
     (ap (λ (w : Window). w.bytes.now) of.window) (ap (λ (w : Window). w.base) of.window) of.lane of.track of.cursor
     c.play_entry-r.ensures.turned c.play_entry-r.ensures.frame_after
@@ -172,7 +172,7 @@ pub returns-after-loop-output : goal.returns-after-loop-output
 returns-after-loop-output c =
     let l = c.loop-output in
     let g = l.invariant in
-    let all = filled_up c.args.window.bytes.now c.args.window.base _ _ l.lane l.frame l.w l.output g
+    let all = filled_up c.args.window.bytes.now c.args.window.base _ _ l.lane l.frame l.v l.output g
     (omega (arith, g.reach, c.loop-output-test.false)) in record {
       «record» = sym (ap (λ (m : Midst). m.voice) all);
       lane = sym (ap (λ (m : Midst). m.lane) all);
@@ -185,9 +185,9 @@ returns-in_default c =
     let l = c.loop-output in
     let g = l.invariant in
     let d = c.in_default.ensures in
-    let all = stopped c.args.window.bytes.now c.args.window.base _ _ l.lane l.frame l.w l.output g c.loop-output-test.true _ d.lane
+    let all = stopped c.args.window.bytes.now c.args.window.base _ _ l.lane l.frame l.v l.output g c.loop-output-test.true _ d.lane
     (sym d.found) in
-    let still = stays c.args.window.bytes.now c.args.window.base _ _ l.lane l.frame l.w l.output g c.loop-output-test.true _ d.lane
+    let still = stays c.args.window.bytes.now c.args.window.base _ _ l.lane l.frame l.v l.output g c.loop-output-test.true _ d.lane
     (sym d.found) in record {
       «record» = sym (ap (λ (m : Midst). m.voice) all);
       lane = still ∙ sym (ap (λ (m : Midst). m.lane) all);

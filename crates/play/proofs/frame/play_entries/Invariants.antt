@@ -8,7 +8,7 @@ use Rattle.play.proofs.frame.play_entries.Given as goal
 
 abbrev pub invariant-loop-output : goal.invariant-loop-output
 invariant-loop-output l =
-    Going l.window.bytes.now l.window.base (entering l.fn.v l.fn.lane) (length l.fn.lane) l.lane l.frame l.w l.output
+    Going l.window.bytes.now l.window.base (entering l.fn.v l.fn.lane) (length l.fn.lane) l.lane l.frame l.v l.output
 
 abbrev pub decreases-loop-output : goal.decreases-loop-output
 decreases-loop-output l = 160 - l.output

@@ -6,9 +6,9 @@ use Rattle.steps.proofs.plain.reach.Goals as goal
 
 pub returns-then-count-eq0 : goal.returns-then-count-eq0
 returns-then-count-eq0 c =
-    none_reached c.args.c c.args.room c.requires.fraction_value (omega arith)
+    none_reached c.args.c c.args.room c.requires.on_a_sample (omega arith)
 
 pub returns : goal.returns
 returns c =
     let n = c.min-count.result in
-    some_reached c.args.c c.args.room n _ c.requires.fraction_value zero_64 (omega arith) (omega arith) (omega arith)
+    some_reached c.args.c c.args.room n _ c.requires.on_a_sample zero_64 (omega arith) (omega arith) (omega arith)

@@ -1,7 +1,7 @@
--- `voice::tidy::tidy_queue` meets its contract: the loop tidies the places from the front. Assumes nothing.
-use Rattle.lists.proofs.Fill.{Filling}
-use Rattle.voice.specs.Tidy.{tidy_queue}
+-- `voice::tidy::tidy_queue` meets its contract: the loop tidies the queued entries from the front. Assumes nothing.
+use Rattle.std.proofs.Common.{◌≡◌, ◌++◌, map, take, drop}
+use Rattle.voice.specs.Tidy.{tidy_entry}
 use Rattle.voice.proofs.tidy.tidy_queue.Given as goal
 
-abbrev pub invariant-loop-place : goal.invariant-loop-place
-invariant-loop-place l = Filling (tidy_queue l.queued l.initial.queue) l.initial.queue l.queue l.place
+abbrev pub invariant-loop-e : goal.invariant-loop-e
+invariant-loop-e l = l.kept ≡ map tidy_entry (take l.e-index l.initial.kept) ++ drop l.e-index l.initial.kept

@@ -2,7 +2,6 @@
 use mathlib.Core.Path.{◌≡◌, sym, ◌∙◌, subst}
 use native.Mathlib.Omega.{arith}
 use lib.Dec.{T}
-use borrow.Author.Tests.{not-true, not-false}
 use Rattle.lists.proofs.Bools.{cond_yes, cond_no}
 use Rattle.filters.specs.Range.{filters_in_range}
 use Rattle.voice.specs.Set.{set_voice_filters, set_voice_frame}
@@ -14,44 +13,41 @@ use Rattle.voice_frame.proofs.sound.sound.Goals as goal
 pub returns-then-not-v : goal.returns-then-not-v
 unfolding sounding sounding_lane
 returns-then-not-v c =
-    let v = c.args.v in
-    let off = not-true v.enabled c.if-not-v.true in record {
+    let off = c.if-not-v.true in record {
       «record» = sym (cond_no _ _ off);
       lane = sym (cond_no _ _ off);
     }
 
-pub pass-w-requires : goal.pass-w-requires
-pass-w-requires c =
+pub pass-v-requires : goal.pass-v-requires
+pass-v-requires c =
     let a = c.args in
     let e = c.play_frame-played.ensures in record {
       filters_in_range = subst (λ (v : Voice). T (filters_in_range v.filters)) (sym e.«record»)
-          (played_range a.window.bytes.now a.window.base a.v a.lane.now c.requires.well_formed);
-      produced_le_frame_samples = omega (arith, e.produced, played_most a.window.bytes.now a.window.base a.v a.lane.now);
+          (played_range a.window.bytes.now a.window.base a.v.now a.lane.now c.requires.well_formed);
+      within_frame = omega (arith, e.produced, played_most a.window.bytes.now a.window.base a.v.now a.lane.now);
     }
 
-pub returns-then-w : goal.returns-then-w
+pub returns-then-v : goal.returns-then-v
 unfolding sounding sounding_lane filtered
-returns-then-w c =
-    let a = c.args in
+returns-then-v c =
     let e = c.play_frame-played.ensures in
-    let on = not-false a.v.enabled c.if-not-v.false in
+    let on = c.if-not-v.false in
     let w = c.play_frame-played.result.voice in
     let n = c.play_frame-played.result.produced in
-    let passed : set_voice_frame c.pass-w.new.frame (set_voice_filters c.pass-w.result w) ≡ filtered n w =
-    λ i. set_voice_frame (c.pass-w.ensures.frame i) (set_voice_filters (c.pass-w.ensures.filters i) w) in record {
+    let passed : set_voice_frame c.pass-v.new.frame (set_voice_filters c.pass-v.result w) ≡ filtered n w =
+    λ i. set_voice_frame (c.pass-v.ensures.frame i) (set_voice_filters (c.pass-v.ensures.filters i) w) in record {
       «record» = passed ∙ (λ i. filtered (e.produced i) (e.«record» i)) ∙ sym (cond_yes _ _ on);
       lane = e.lane ∙ sym (cond_yes _ _ on);
     }
 
-pub returns-else-w-2 : goal.returns-else-w-2
+pub returns-else-v-2 : goal.returns-else-v-2
 unfolding sounding sounding_lane
-returns-else-w-2 c =
-    let a = c.args in
+returns-else-v-2 c =
     let e = c.play_frame-played.ensures in
-    let on = not-false a.v.enabled c.if-not-v.false in
+    let on = c.if-not-v.false in
     let w = c.play_frame-played.result.voice in
     record {
-      «record» = sym (filtered_off c.play_frame-played.result.produced w c.if-w.false c.if-w-2.false) ∙ (λ i. filtered (e.produced i) (e.«record» i))
-          ∙ sym (cond_yes _ _ on);
+      «record» = sym (filtered_off c.play_frame-played.result.produced w c.if-v.false c.if-v-2.false)
+          ∙ (λ i. filtered (e.produced i) (e.«record» i)) ∙ sym (cond_yes _ _ on);
       lane = e.lane ∙ sym (cond_yes _ _ on);
     }

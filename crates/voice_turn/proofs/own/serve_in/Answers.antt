@@ -41,9 +41,9 @@ serve_parts-requires c =
     let lane = lent_long (a.i * L) L a.lanes.now room.lane in
     let report = lent_long (l.statuses + 12 * a.i) 12 a.other.now room.status in record {
       well_formed = subst (λ (n : ℕ). WellFormed n a.v) (sym lane) c.requires.well_formed;
-      lane_len_bound = omega (arith, lane, room.short);
-      bytes_len = lent_long (l.configurations + 192 * a.i) 192 a.read.now room.configuration;
-      report_len = report;
+      short_lane = omega (arith, lane, room.short);
+      whole_configuration = lent_long (l.configurations + 192 * a.i) 192 a.read.now room.configuration;
+      whole_status = report;
     }
 
 pub returns : goal.returns
@@ -77,6 +77,6 @@ returns c =
       other = other_back l a.i answer other c.serve_parts.new.report room.status report_is report_long;
       lanes = lanes_back a.i answer lanes c.serve_parts.new.lane room.lane lane_is lane_long;
       mixes = e.mixes ∙ ap (λ (x : Answer). mixes_after x a.mixes.now) same;
-      long = long L answer lane c.serve_parts.new.lane bytes c.serve_parts.new.bytes report c.serve_parts.new.report lane_is lane_long bytes_is bytes_long
-          report_is report_long;
+      long = long L answer lane c.serve_parts.new.lane bytes c.serve_parts.new.bytes report c.serve_parts.new.report
+          lane_is lane_long bytes_is bytes_long report_is report_long;
     }

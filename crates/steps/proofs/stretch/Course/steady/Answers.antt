@@ -47,7 +47,7 @@ loop-k-init c =
     let all : s.room - 0 ≡ s.room = omega arith in (
       begun s.rate s.start s.size a.places.now a.fractions.now s.room s.two_left s.start_in_entry c.told-places c.told-fractions,
       c.requires.part,
-      omega (arith, c.requires.rate_bound, s.start_in_entry, ap (λ (n : ℕ). n * (cast_u32 s.rate + 1)) all),
+      omega (arith, c.requires.two_left_after, s.start_in_entry, ap (λ (n : ℕ). n * (cast_u32 s.rate + 1)) all),
     )
 
 pub counted-at-requires : goal.counted-at-requires

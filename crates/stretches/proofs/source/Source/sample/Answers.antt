@@ -12,7 +12,7 @@ pub pcm_in-requires-clause-callable : goal.pcm_in-requires-clause-callable
 pcm_in-requires-clause-callable c =
     let s = c.args.self.now in
     let held : (c.args.place + 1) * size8 s.played.stereo ≤ length s.bytes.now =
-    among_by s.player.lane.now s.bytes.now s.played c.args.place s.holds c.requires _ c.in-Pcm8.is in
+    among_by s c.args.place c.requires _ c.in-Pcm8.is in
     λ k lt.
     let inside : k < length s.bytes.now = omega arith in
     search rules
@@ -20,7 +20,7 @@ pcm_in-requires-clause-callable c =
 pub pcm_in-requires-in-Pcm16-clause-callable : goal.pcm_in-requires-in-Pcm16-clause-callable
 pcm_in-requires-in-Pcm16-clause-callable c =
     let s = c.args.self.now in
-    let held = among_by s.player.lane.now s.bytes.now s.played c.args.place s.holds c.requires _ c.in-Pcm16.is in
+    let held = among_by s c.args.place c.requires _ c.in-Pcm16.is in
     λ k lt.
     let inside : k * 2 + 2 ≤ length s.bytes.now = omega (arith, held, value_among s.played.stereo c.args.place k lt) in
     search rules
@@ -31,7 +31,7 @@ pcm_in-requires-clause-few c =
     omega (
       arith,
       place_below s.played.stereo c.args.place _
-          (among_by s.player.lane.now s.bytes.now s.played c.args.place s.holds c.requires _ c.in-Pcm8.is),
+          (among_by s c.args.place c.requires _ c.in-Pcm8.is),
     )
 
 pub pcm_in-requires-in-Pcm16-clause-few : goal.pcm_in-requires-in-Pcm16-clause-few
@@ -40,7 +40,7 @@ pcm_in-requires-in-Pcm16-clause-few c =
     omega (
       arith,
       place_below16 s.played.stereo c.args.place _
-          (among_by s.player.lane.now s.bytes.now s.played c.args.place s.holds c.requires _ c.in-Pcm16.is),
+          (among_by s c.args.place c.requires _ c.in-Pcm16.is),
     )
 
 pub returns-in-Pcm8 : goal.returns-in-Pcm8
@@ -48,7 +48,7 @@ unfolding sample_in
 returns-in-Pcm8 c =
     let s = c.args.self.now in
     c.pcm_in.ensures (λ k. high_byte (get_or s.bytes.now k 0)) (λ k lt v p. search rules)
-    ∙ sym (ap (λ (f : Format). sample_by s.player.lane.now s.bytes.now f s.played.stereo c.args.place) c.in-Pcm8.is)
+    ∙ sym (ap (λ (f : Format). sample_by s.lane.now s.bytes.now f s.played.stereo c.args.place) c.in-Pcm8.is)
 
 pub returns-in-Pcm16 : goal.returns-in-Pcm16
 unfolding sample_in
@@ -56,14 +56,14 @@ returns-in-Pcm16 c =
     let s = c.args.self.now in
     c.pcm_in-in-Pcm16.ensures (λ k. signed16 (at16 s.bytes.now (k * 2))) (λ k lt v p. search rules)
     ∙ values_of16 s.bytes.now s.played.stereo c.args.place
-    ∙ sym (ap (λ (f : Format). sample_by s.player.lane.now s.bytes.now f s.played.stereo c.args.place) c.in-Pcm16.is)
+    ∙ sym (ap (λ (f : Format). sample_by s.lane.now s.bytes.now f s.played.stereo c.args.place) c.in-Pcm16.is)
 
 pub bounds-self-place : goal.bounds-self-place
 bounds-self-place c =
     let s = c.args.self.now in
-    omega (arith, among_by s.player.lane.now s.bytes.now s.played c.args.place s.holds c.requires _ c.in-Adpcm.is)
+    omega (arith, among_by s c.args.place c.requires _ c.in-Adpcm.is)
 
 pub offset_bounds-self-place : goal.offset_bounds-self-place
 offset_bounds-self-place c =
     let s = c.args.self.now in
-    omega (arith, among_by s.player.lane.now s.bytes.now s.played c.args.place s.holds c.requires _ c.in-Adpcm.is)
+    omega (arith, among_by s c.args.place c.requires _ c.in-Adpcm.is)
