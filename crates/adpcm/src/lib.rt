@@ -13,6 +13,7 @@ ghost use Rattle.adpcm.specs.Code.{sum_of, after, samples_of, history_after, dec
 ghost use Rattle.adpcm.specs.Sizes.{frame_bytes, frame_samples, most_samples};
 ghost use Rattle.adpcm.specs.Adpcm.{sample_of, decode_answer, decode_output};
 
+use numbers::sizes::COEFFICIENTS;
 use numbers::whole::{clamped, product, wrapped};
 use refusals::Refusal;
 
@@ -21,7 +22,7 @@ pub const FRAME_BYTES: usize = 8;
 
 pub const FRAME_SAMPLES: usize = 14;
 
-const MOST_SAMPLES: usize = 65536;
+pub const MOST_SAMPLES: usize = 65536;
 
 // How many bytes hold so many samples: whole frames, of which the last may not be full.
 pub fn bytes_of(samples: usize) -> usize
@@ -30,7 +31,8 @@ pub fn bytes_of(samples: usize) -> usize
     samples.div_ceil(FRAME_SAMPLES) * FRAME_BYTES
 }
 
-// The last two samples, the newer first, which the next ones follow on from.
+// The last two samples, the newer first, which the next ones follow on from. It is made by the names of its fields, no `From` of two
+// numbers, so that which is the newer is read where it is made.
 #[derive(Clone, Copy, Default)]
 pub struct History {
     pub yn1: i16,
@@ -87,7 +89,7 @@ struct Header {
 }
 
 impl Header {
-    fn read(byte: u8, coefficients: &[i16; 16]) -> Header
+    fn read(byte: u8, coefficients: &[i16; COEFFICIENTS]) -> Header
         ensures exponent { result.exponent ≡ byte % 16 }
         ensures c1 { result.c1 ≡ get_or coefficients.now (byte / 16 % 8 * 2) (pos 0) }
         ensures c2 { result.c2 ≡ get_or coefficients.now (byte / 16 % 8 * 2 + 1) (pos 0) }
@@ -150,7 +152,7 @@ impl Header {
 // Decodes as many samples of a frame as `samples` holds, 14 at most.
 fn decode_frame(
     frame: &[u8; FRAME_BYTES],
-    coefficients: &[i16; 16],
+    coefficients: &[i16; COEFFICIENTS],
     history: &mut History,
     samples: &mut [i16],
 )
@@ -170,7 +172,12 @@ fn decode_frame(
 
 // Decodes as many samples as `samples` holds from the bytes of their frames. Each frame's part of them goes by index, since of `chunks_mut`
 // no proof knows what the slice ends as.
-fn decode_all(data: &[u8], coefficients: &[i16; 16], history: &mut History, samples: &mut [i16])
+fn decode_all(
+    data: &[u8],
+    coefficients: &[i16; COEFFICIENTS],
+    history: &mut History,
+    samples: &mut [i16],
+)
     requires { length «data».now ≡ frames_of (length samples.old) * frame_bytes }
     ensures samples { samples.new ≡
         decoded_samples sample_of coefficients.now history.old «data».now (length samples.old) }
@@ -189,7 +196,7 @@ fn decode_all(data: &[u8], coefficients: &[i16; 16], history: &mut History, samp
 pub fn decode_adpcm(
     data: &[u8],
     count: usize,
-    coefficients: &[i16; 16],
+    coefficients: &[i16; COEFFICIENTS],
     history: &mut History,
     samples: &mut [i16],
 ) -> Result<(), Refusal>

@@ -9,7 +9,7 @@ use lib.Dec.{ltb}
 use lib.IntN.{ℤ}
 use lib.ListN.{length, get_or}
 use borrow.Author.Tests.{ltb-false}
-use Rattle.std.specs.Prelude.{Result, Ok, Err}
+use Rattle.std.specs.Prelude.{Result, Ok}
 use Rattle.arrayvec.specs.ArrayVec.{ArrayVec}
 use Rattle.refusals.specs.declared.Refusal.{Refusal as Reason}
 use Rattle.refusals.specs.Numbers.{number}
@@ -32,7 +32,7 @@ use Rattle.calls.specs.declared.refused.RefusedVoice.{RefusedVoice}
 use Rattle.turns.specs.Turns.{State, beginning}
 use Rattle.alone.specs.Inner.{ticked}
 use Rattle.turns.proofs.Begun.{each_formed, all_voices_lem}
-use Rattle.turns.proofs.Contract.{no_refusals, refused_by_lengths, refused_later, served}
+use Rattle.turns.proofs.Contract.{GivenBack, no_refusals, refused_by_lengths, refused_later, served}
 use Rattle.turns.proofs.Turns.{memory_of, turn_memory, turn_mixes, turn_carried}
 use Rattle.alone.specs.TickVoice.{left, refused, Ensured}
 
@@ -75,10 +75,10 @@ module _ (fx : Fixed) (v : ℕ) (r0 r1 w : List ℕ) (ys : List Voice) (lanes mi
   none_listed : (alone_number fx v x ≡ 0 → ⊥) → Lists []
   none_listed h = sym (no_refusals (alone_number fx v x) fx x (v ∷ []) h)
 
-  pub refused_call : (e : Reason) → number e ≡ code → (r : Result (ArrayVec RefusedVoice) Reason) → r ≡ Err e → Ensured fx v x r x
+  pub refused_call : (e : Reason) → number e ≡ code → (r : Result (ArrayVec RefusedVoice) Reason) → GivenBack e r → Ensured fx v x r x
   refused_call = refused_by_lengths (alone_number fx v x) (left fx v x) Lists x untouched none_listed code late number_is
 
-  pub late_call : (e : Reason) → code ≡ 0 → number e ≡ late → (r : Result (ArrayVec RefusedVoice) Reason) → r ≡ Err e
+  pub late_call : (e : Reason) → code ≡ 0 → number e ≡ late → (r : Result (ArrayVec RefusedVoice) Reason) → GivenBack e r
       → Ensured fx v x r x
   late_call = refused_later (alone_number fx v x) (left fx v x) Lists x untouched none_listed code late number_is
 
@@ -88,7 +88,7 @@ module _ (fx : Fixed) (v : ℕ) (r0 r1 w : List ℕ) (ys : List Voice) (lanes mi
     none_bad : bad ≡ false
     none_bad = (passed bad 6 0 (neither (cond bad 7 0) (cond (ltb 23 v) 10 0) good).0).0
 
-    pub a_voice : v < 24
+    a_voice : v < 24
     a_voice = omega (arith, ltb-false 23 v (passed (ltb 23 v) 9 0 (neither (cond bad 7 0) (cond (ltb 23 v) 10 0) good).1).0)
 
     pub lent_too : v < length ys

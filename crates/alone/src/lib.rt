@@ -6,7 +6,7 @@
 
 ghost use Rattle.std.specs.Prelude.{◌≡◌, ◌<◌, length, get_or};
 ghost use Rattle.numbers.specs.Sizes.{MIXES};
-ghost use Rattle.stems.specs.Memory.{VOICES, lane_length};
+ghost use Rattle.stems.specs.Memory.{lane_length};
 ghost use Rattle.voice.specs.Blank.{default_voice};
 ghost use Rattle.voice.specs.Malformed.{WellFormed};
 ghost use Rattle.calls.specs.Begin.{Fitting, second_of};
@@ -18,6 +18,7 @@ ghost use Rattle.alone.specs.TickVoice.{Ensured};
 use calls::begin::begin;
 use calls::refusal::{accept_alone, accept_lent};
 use calls::refused::{Refused, note};
+use calls::voice_number::VoiceNumber;
 use numbers::sizes::MIXES;
 use refusals::Refusal;
 use stems::Fixed;
@@ -27,7 +28,7 @@ use voice::record::Voice;
 // Begins the call, and gives this voice its turn. Memory is lent thing by thing, as `turns` takes it.
 fn serve_alone(
     voices: &mut [Voice],
-    voice: usize,
+    voice: VoiceNumber,
     fixed: Fixed,
     region0: &mut [u8],
     region1: &mut [u8],
@@ -35,21 +36,20 @@ fn serve_alone(
     lanes: &mut [i16],
     mixes: &mut [i32; MIXES],
 ) -> Refused
-    requires lent { voice < length voices.old }
-    requires a_voice { voice < VOICES }
-    requires well_formed { WellFormed (lane_length (length lanes.old)) (get_or voices.old voice default_voice) }
+    requires lent { voice.number < length voices.old }
+    requires well_formed { WellFormed (lane_length (length lanes.old)) (get_or voices.old voice.number default_voice) }
     requires fitting { Fitting fixed (length region0.old) (length region1.old) (length window.now) (length lanes.old) MIXES }
-    ensures refused { refusals_of result.items ≡ (ticked fixed window.now (second_of fixed region0.old region1.old) voice
+    ensures refused { refusals_of result.items ≡ (ticked fixed window.now (second_of fixed region0.old region1.old) voice.number
         voices.old region0.old region1.old lanes.old).refused }
-    ensures voices { voices.new ≡ (ticked fixed window.now (second_of fixed region0.old region1.old) voice
+    ensures voices { voices.new ≡ (ticked fixed window.now (second_of fixed region0.old region1.old) voice.number
         voices.old region0.old region1.old lanes.old).voices }
-    ensures region0 { region0.new ≡ (ticked fixed window.now (second_of fixed region0.old region1.old) voice
+    ensures region0 { region0.new ≡ (ticked fixed window.now (second_of fixed region0.old region1.old) voice.number
         voices.old region0.old region1.old lanes.old).region0 }
-    ensures region1 { region1.new ≡ (ticked fixed window.now (second_of fixed region0.old region1.old) voice
+    ensures region1 { region1.new ≡ (ticked fixed window.now (second_of fixed region0.old region1.old) voice.number
         voices.old region0.old region1.old lanes.old).region1 }
-    ensures lanes { lanes.new ≡ (ticked fixed window.now (second_of fixed region0.old region1.old) voice
+    ensures lanes { lanes.new ≡ (ticked fixed window.now (second_of fixed region0.old region1.old) voice.number
         voices.old region0.old region1.old lanes.old).lanes }
-    ensures mixes { mixes.new ≡ (ticked fixed window.now (second_of fixed region0.old region1.old) voice
+    ensures mixes { mixes.new ≡ (ticked fixed window.now (second_of fixed region0.old region1.old) voice.number
         voices.old region0.old region1.old lanes.old).mixes }
 {
     let read = begin(fixed, region0, region1, mixes);
@@ -79,6 +79,7 @@ pub fn tick_voice(
 {
     accept_lent(fixed, voices, region0, region1, window, lanes, mixes)?;
     accept_alone(voices, lanes.len(), voice)?;
+    let voice = VoiceNumber { number: voice };
     let mixes = mixes.as_mut_array::<MIXES>().unwrap();
     Ok(serve_alone(voices, voice, fixed, region0, region1, window, lanes, mixes))
 }

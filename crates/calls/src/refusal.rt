@@ -9,14 +9,12 @@ ghost use Rattle.voice.specs.Malformed.{malformed};
 ghost use Rattle.calls.specs.Begin.{lengths_of, lengths_code};
 
 use crate::refused::VOICES;
+use adpcm::MOST_SAMPLES;
 use numbers::sizes::MIXES;
 use refusals::Refusal;
 use stems::Fixed;
 use voice::malformed::malformed;
 use voice::record::Voice;
-
-// The most samples of a lane.
-const MOST: usize = 65536;
 
 // How much of each thing is lent to a call.
 #[derive(Clone, Copy)]
@@ -37,7 +35,7 @@ pub fn accept_lengths(fixed: Fixed, lent: Lengths) -> Result<(), Refusal>
     layout::accept(lent.region0, lent.region1, fixed.layout)?;
     window::accept(fixed.base, lent.window)?;
     let lane = lent.lanes / VOICES;
-    if lent.records != VOICES || lent.lanes != VOICES * lane || lane > MOST {
+    if lent.records != VOICES || lent.lanes != VOICES * lane || lane > MOST_SAMPLES {
         return Err(Refusal::RecordsOrLanes);
     }
     if lent.mixes != MIXES {
@@ -46,7 +44,7 @@ pub fn accept_lengths(fixed: Fixed, lent: Lengths) -> Result<(), Refusal>
     Ok(())
 }
 
-// Refuses, by the same, a call that is lent all this.
+// Refuses, by the same, a call that is lent all this. The six things are taken by reference one by one, as the calls are lent them.
 pub fn accept_lent(
     fixed: Fixed,
     records: &[Voice],

@@ -6,10 +6,12 @@ ghost use Rattle.refusals.specs.declared.Refusal.TheVariants.{QueueFull};
 ghost use Rattle.stems.specs.Memory.{VOICES};
 ghost use Rattle.calls.specs.Refused.{refusals_of, refused_after};
 
+use crate::voice_number::VoiceNumber;
 use arrayvec::ArrayVec;
+use numbers::sizes;
 use refusals::Refusal;
 
-pub const VOICES: usize = 24;
+pub const VOICES: usize = sizes::VOICES;
 
 // A voice that was refused, and why.
 #[derive(Clone, Copy, PartialEq, Eq, Debug)]
@@ -34,15 +36,14 @@ impl Default for RefusedVoice {
 pub type Refused = ArrayVec<RefusedVoice, VOICES>;
 
 // Lists a voice behind the others if its turn refused it.
-pub fn note(refused: &mut Refused, voice: usize, outcome: Result<(), Refusal>)
-    requires room { array_vec_len refused.old < VOICES }
-    requires voice_bound { voice < VOICES }
+pub fn note(refused: &mut Refused, voice: VoiceNumber, outcome: Result<(), Refusal>)
+    requires { array_vec_len refused.old < VOICES }
     ensures few { array_vec_len refused.new ≤ array_vec_len refused.old + 1 }
-    ensures items { refusals_of refused.new.items ≡ refused_after voice (number_of outcome) (refusals_of refused.old.items) }
+    ensures items { refusals_of refused.new.items ≡ refused_after voice.number (number_of outcome) (refusals_of refused.old.items) }
 {
     if let Err(refusal) = outcome {
         refused.push(RefusedVoice {
-            voice: voice as u8,
+            voice: voice.number as u8,
             refusal,
         });
     }

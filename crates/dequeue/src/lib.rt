@@ -21,16 +21,15 @@ use window::Window;
 
 // The entry at a place leaves the queue, or, where it loops, is marked as played.
 #[tactic(auto, unfolding(crate::specs::Dequeue::taken))]
-fn take(v: Voice, place: usize) -> Voice
+fn take(mut v: Voice, place: usize) -> Voice
     requires place_lt_queued { place < v.queued }
     requires queued_le_limit { v.queued ≤ limit }
     ensures { result ≡ taken place v }
 {
     let e = v.queue[place];
     if e.looping {
-        let mut w = v;
-        w.queue[place] = mark_played(e);
-        return w;
+        v.queue[place] = mark_played(e);
+        return v;
     }
     remove(v, place)
 }
@@ -49,24 +48,23 @@ fn start_of(e: Entry) -> u32
 
 // The record with an entry that begins. Stores go to the record in its place, since a whole one is long to build.
 #[tactic(auto, unfolding(crate::specs::Dequeue::begun, crate::specs::Dequeue::begun_at, crate::specs::Dequeue::with_history))]
-fn begin(v: Voice, e: Entry) -> Voice
+fn begin(mut v: Voice, e: Entry) -> Voice
     ensures { result ≡ begun e v }
 {
     let start = start_of(e);
-    let mut w = v;
-    w.length = e.length;
-    w.remaining = e.length - start;
-    w.position = start;
-    w.fraction = 0.0;
-    w.current_buffer_id = e.id;
-    w.last_buffer_id = 0;
-    w.buffer_update = e.from_queue && !was_played(e);
-    w.has_playing = true;
-    w.playing = e;
+    v.length = e.length;
+    v.remaining = e.length - start;
+    v.position = start;
+    v.fraction = 0.0;
+    v.current_buffer_id = e.id;
+    v.last_buffer_id = 0;
+    v.buffer_update = e.from_queue && !was_played(e);
+    v.has_playing = true;
+    v.playing = e;
     if e.has_adpcm {
-        w.history = e.adpcm;
+        v.history = e.adpcm;
     }
-    w
+    v
 }
 
 // An address with its low two bits cleared.
@@ -92,37 +90,37 @@ fn decodable(window: Window<'_>, e: Entry) -> bool
     is_adpcm(e.format) && window.present(align(e.address), bytes_of(e))
 }
 
-// Decodes so many samples into the lane, on from the record's history.
+// Decodes as many samples as there is lane handed, on from the record's history.
 #[tactic(auto, using(adpcm::proofs::Nine::well), unfolding(crate::specs::Dequeue::decoded_voice, crate::specs::Dequeue::decoded_lane))]
-fn decode(v: Voice, bytes: &[u8], count: u32, lane: &mut [i16]) -> Voice
-    requires bytes_len { length bytes.now ≡ frames_of count * frame_bytes }
-    requires count_le_most_samples { count ≤ most_samples }
-    requires count_in_bounds { count ≤ length lane.old }
-    ensures record { result ≡ decoded_voice bytes.now count v }
-    ensures lane { lane.new ≡ decoded_lane bytes.now count v lane.old }
+fn decode(v: Voice, bytes: &[u8], lane: &mut [i16]) -> Voice
+    requires bytes_len { length bytes.now ≡ frames_of (length lane.old) * frame_bytes }
+    requires short_lane { length lane.old ≤ most_samples }
+    ensures record { result ≡ decoded_voice bytes.now (length lane.old) v }
+    ensures lane { lane.new ≡ decoded_lane bytes.now (length lane.old) v lane.old }
 {
+    // a copy, since the history is lent beside the coefficients of the same record
     let mut w = v;
-    // the decoder refuses nothing here: the bytes are whole frames, and the lane has room
-    let _ = decode_adpcm(bytes, count as usize, &v.coefficients, &mut w.history, lane);
-    w.decoded = count;
+    let count = lane.len();
+    // the decoder refuses nothing here: the bytes are the count's whole frames, and the lane has room
+    let _ = decode_adpcm(bytes, count, &v.coefficients, &mut w.history, lane);
+    w.decoded = count as u32;
     w
 }
 
 // Has an entry's samples decoded, where it is ADPCM and all of its bytes are present.
 #[tactic(auto, unfolding(crate::specs::Dequeue::prepared_voice, crate::specs::Dequeue::prepared_lane))]
-fn prepare(v: Voice, e: Entry, window: Window<'_>, lane: &mut [i16]) -> Voice
+fn prepare(mut v: Voice, e: Entry, window: Window<'_>, lane: &mut [i16]) -> Voice
     requires entry_fits { too_long (length lane.old) e ≡ false }
     requires short_lane { length lane.old ≤ most_samples }
     ensures record { result ≡ prepared_voice window.entry.bytes.now window.entry.base e v }
     ensures lane { lane.new ≡ prepared_lane window.entry.bytes.now window.entry.base e v lane.old }
 {
     if !decodable(window, e) {
-        let mut w = v;
-        w.decoded = 0;
-        return w;
+        v.decoded = 0;
+        return v;
     }
     let bytes = window.physical(align(e.address), bytes_of(e));
-    decode(v, bytes, e.length, lane)
+    decode(v, bytes, &mut lane[..e.length as usize])
 }
 
 // Starts the next entry, where one is queued. That no more is queued than fits, and that what is queued fits the lane, are asked for and no
@@ -137,6 +135,7 @@ pub fn dequeue(v: Voice, window: Window<'_>, lane: &mut [i16]) -> Option<Voice>
     ensures record { unwrap_or result v ≡ (dequeued window.entry.bytes.now window.entry.base v).voice }
     ensures lane { lane.new ≡ dequeued_lane window.entry.bytes.now window.entry.base v lane.old }
 {
+    // document 01 has the search's answer taken apart so
     let Some(place) = search(&v.queue[..v.queued]) else {
         return None;
     };

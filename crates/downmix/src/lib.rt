@@ -58,7 +58,7 @@ pub fn added(out: i16, part: i16) -> i16
     out.saturating_add(part)
 }
 
-// What a mix adds to the two sides of a sample.
+// What a mix adds to the two sides of a sample. (A `Sample` of the crate `samples` is an entry's, and needs all that reads one.)
 #[derive(Clone, Copy)]
 struct Parts {
     left: i16,
@@ -89,7 +89,8 @@ fn parts_of(output: Output, volume: f32, mix: &[i32; MIX], i: usize) -> Parts
     }
 }
 
-// Adds a mix to the frame, a pair a turn: a mono part is computed once for both sides.
+// Adds a mix to the frame, a pair a turn: a mono part is computed once for both sides. By index, since of `as_chunks_mut` no proof knows
+// what the slice ends as.
 fn mix_in(frame: &mut [i16; FRAME], mix: &[i32; MIX], volume: f32, output: Output)
     ensures { frame.new ≡ mixed_in output volume mix.now frame.old }
 {

@@ -1,8 +1,8 @@
 // Filters that change nothing: what a filter that is switched on begins as, and the blank under an off mark.
 ghost use Rattle.std.specs.Prelude.{◌≡◌};
-ghost use Rattle.filters.specs.Defaults.{default_simple, default_biquad, no_filters};
+ghost use Rattle.filters.specs.Defaults.{default_simple, default_biquad};
 
-use crate::state::{BiquadFilter, Filters, SimpleFilter};
+use crate::state::{BiquadFilter, SimpleFilter};
 
 impl Default for SimpleFilter {
     ghost is_default = { λ f. f ≡ default_simple };
@@ -25,19 +25,6 @@ impl Default for BiquadFilter {
             a: [0; 2],
             x: [0; 4],
             y: [0; 4],
-        }
-    }
-}
-
-impl Default for Filters {
-    ghost is_default = { λ f. f ≡ no_filters };
-
-    fn default() -> Filters {
-        Filters {
-            has_simple: false,
-            simple: SimpleFilter::default(),
-            has_biquad: false,
-            biquad: BiquadFilter::default(),
         }
     }
 }

@@ -21,6 +21,7 @@ pub trait Filter: Copy {
         ensures { result ≡ in_range self.now };
 
     // Puts a sample of a channel, 0 or 1, through, in its place. A filter in range stays so.
+    // That it is in range is asked for and is no ghost fact of a filter: a lent record may be malformed.
     // The channel is a number, as in the definitions, and the index of what a filter keeps: an enum would be turned back into it.
     fn pass(&mut self, channel: usize, sample: &mut i16)
         requires range { T (in_range self.old) }

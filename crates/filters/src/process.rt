@@ -7,10 +7,10 @@ use crate::run::run;
 use crate::state::Filters;
 
 // Puts samples through the filters in their place, left and right in turn.
-pub fn process(mut filters: Filters, samples: &mut [i16]) -> Filters
-    requires { T (filters_in_range filters) }
-    ensures samples { samples.new ≡ passed_from 0 filters samples.old }
-    ensures filters { result ≡ filters_after 0 filters samples.old }
+pub fn process(filters: &mut Filters, samples: &mut [i16])
+    requires { T (filters_in_range filters.old) }
+    ensures samples { samples.new ≡ passed_from 0 filters.old samples.old }
+    ensures filters { filters.new ≡ filters_after 0 filters.old samples.old }
 {
     if filters.has_simple {
         run(&mut filters.simple, samples);
@@ -18,5 +18,4 @@ pub fn process(mut filters: Filters, samples: &mut [i16]) -> Filters
     if filters.has_biquad {
         run(&mut filters.biquad, samples);
     }
-    filters
 }

@@ -18,7 +18,7 @@ pub struct BiquadFilter {
 }
 
 // A filter counts only where its mark is on. Document 01 wants a record with each mark beside its data, so they are no `Option`s.
-#[derive(Clone, Copy)]
+#[derive(Clone, Copy, Default)]
 pub struct Filters {
     pub has_simple: bool,
     pub simple: SimpleFilter,

@@ -25,7 +25,7 @@ enum Kind {
     Mixer,
 }
 
-// The kinds, each at its number.
+// The kinds, each at its number: a table says no number twice, as discriminants and a `TryFrom` would.
 const KINDS: [Kind; 4] = [Kind::Number, Kind::Decode, Kind::Listing, Kind::Mixer];
 
 // An answer put where the room begins.

@@ -9,6 +9,7 @@ ghost use Rattle.refusals.specs.Numbers.{number_of};
 ghost use Rattle.layout.specs.Places.{end, places_of, apart_two, apart, layout_number};
 
 use fields::{config, mixer_config, status};
+use numbers::sizes;
 use refusals::Refusal;
 
 // Where each place begins, the same in both regions.
@@ -53,24 +54,24 @@ impl Place {
     }
 }
 
-const VOICES: u32 = 24;
+const VOICES: u32 = sizes::VOICES as u32;
 
 const CONFIGURATIONS: u32 = VOICES * (config::CONFIG_SIZE as u32);
 
 const STATUSES: u32 = VOICES * (status::STATUS_SIZE as u32);
 
-// 16 coefficients of 2 bytes for each voice.
-const COEFFICIENTS: u32 = VOICES * 16 * 2;
+// Of 2 bytes each.
+const COEFFICIENTS: u32 = VOICES * (sizes::COEFFICIENTS as u32) * 2;
 
 const FRAME_COUNTER: u32 = 2;
 
 const MIXER_CONFIGURATION: u32 = mixer_config::CONFIG_SIZE as u32;
 
-// A frame's samples for 2 ears, of 2 bytes.
-const FINAL_SAMPLES: u32 = 160 * 2 * 2;
+// Of 2 bytes each.
+const FINAL_SAMPLES: u32 = (sizes::FRAME as u32) * 2;
 
-// A frame's samples for 4 channels of 2 mixes, of 4 bytes.
-const INTERMEDIATE_SAMPLES: u32 = 2 * 4 * 160 * 4;
+// The values of 2 mixes, of 4 bytes each.
+const INTERMEDIATE_SAMPLES: u32 = 2 * (sizes::MIX as u32) * 4;
 
 const REGION_MOST: usize = 65536;
 
@@ -117,7 +118,7 @@ fn all_inside(n: usize, places: &[Place]) -> bool
     places.iter().all(|p| p.end() <= n as u64)
 }
 
-// Whether no two places share a byte.
+// Whether no two places share a byte. A loop and no `all`: the places that are left get fewer, as the definition has it.
 fn all_apart(places: &[Place]) -> bool
     ensures { result ≡ apart places.now }
 {

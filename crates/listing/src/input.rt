@@ -5,15 +5,16 @@ ghost use Rattle.listing.specs.Listing.{coefficients_in, history_in, count_in};
 use crate::sizes::HEADER;
 use adpcm::History;
 use little::{read16, signed_halves};
+use numbers::sizes::COEFFICIENTS;
 
 // Where the history stands, behind the coefficients, and where the count, behind both.
-const HISTORY: usize = 16 * 2;
+const HISTORY: usize = COEFFICIENTS * 2;
 
 const COUNT: usize = HISTORY + 2 * 2;
 
 // The 16 coefficients.
 #[tactic(auto, unfolding(crate::specs::Listing::coefficients_in))]
-pub fn coefficients(header: &[u8; HEADER]) -> [i16; 16]
+pub fn coefficients(header: &[u8; HEADER]) -> [i16; COEFFICIENTS]
     ensures { result ≡ coefficients_in header.now }
 {
     signed_halves(header)

@@ -65,7 +65,7 @@ pub fn listing(input: &[u8], output: &mut [u8; OUTPUT_ROOM]) -> usize
 }
 
 // Lists an input of which `got` bytes were read into a buffer, all of it or as many as the buffer holds. What was not read changes nothing.
-// The buffer is no array with its length in the type, since the C export lends a slice.
+// The buffer is a slice whose length is asked, so that a program with a shorter one is refused by the proof of its call.
 pub fn list_read(buffer: &[u8], got: usize, output: &mut [u8; OUTPUT_ROOM]) -> usize
     requires buffer_len { length buffer.now ≡ input_room }
     requires got_le_input_room { got ≤ input_room }

@@ -1,13 +1,14 @@
 // The sizes of the input and the output, each named once.
 
 use adpcm::{FRAME_BYTES, FRAME_SAMPLES};
+use numbers::sizes::COEFFICIENTS;
 
 // The width of a column.
 pub const WIDTH: usize = 8;
 // A line: two columns and a newline.
 pub const LINE: usize = 2 * WIDTH + 1;
-// The input before the frames: 16 coefficients, yn1, yn2 and the count.
-pub const HEADER: usize = (16 + 3) * 2;
+// The input before the frames: the coefficients, yn1, yn2 and the count.
+pub const HEADER: usize = (COEFFICIENTS + 3) * 2;
 // The largest count.
 pub const MOST_SAMPLES: usize = 65535;
 // The frames of that many samples, their bytes counted by hand: a constant can call no `adpcm::bytes_of`.

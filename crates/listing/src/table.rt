@@ -9,7 +9,8 @@ use crate::text::{column, line, number};
 use adpcm::History;
 use refusals::Refusal;
 
-// Puts a line for each sample, after the first line. How many samples there are at most is asked, since no type of a slice says it.
+// Puts a line for each sample, after the first line. How many samples there are at most is asked, since no type of a slice says
+// it. Lines go to their places, since of `chunks_mut` no proof knows what the slice ends as.
 fn put_rows(samples: &[i16], output: &mut [u8; OUTPUT_ROOM])
     requires { length samples.now ≤ most_samples }
     ensures { Put output.old line_bytes (rows 0 samples.now) output.new ((length samples.now + 1) * line_bytes) }

@@ -5,7 +5,7 @@
 #![tactic(auto)]
 
 ghost use Rattle.std.specs.Prelude.{◌≡◌, ◌+◌, ◌*◌, ◌/◌, ◌%◌, ◌≤◌, length};
-ghost use Rattle.lists.specs.Splice.{splice};
+ghost use Rattle.lists.specs.Splice.{part, splice};
 ghost use Rattle.numbers.specs.Wrap.{signed16};
 ghost use Rattle.little.specs.Little.{at16, signed_halves, at32, at_dsp32, bytes16, bytes32, dsp32_bytes};
 
@@ -54,6 +54,14 @@ pub fn read_dsp32(s: &[u8], at: usize) -> u32
     ensures { result ≡ at_dsp32 s.now at }
 {
     exchanged(read32(s, at))
+}
+
+// N values of a slice, from a place on.
+pub fn part_at<T, const N: usize>(values: &[T], at: usize) -> &[T; N]
+    requires { at + N ≤ length values.now }
+    ensures { result.now ≡ part at N values.now }
+{
+    values[at..at + N].as_array().unwrap()
 }
 
 // Stores bytes at a place; every other byte stays.

@@ -6,7 +6,7 @@ ghost use Rattle.mixing.specs.Gain.{at_gain, fading};
 ghost use Rattle.mix_voice.specs.Mixed.{place_of, sample_at, floats_of, fade_steps, Summed};
 
 use crate::signs::{is_within, part};
-use mixing::gain::{at_gain, fading};
+use mixing::gain::{at_gain, fading, progress};
 use numbers::ranged::ranged;
 use numbers::sizes::{FRAME, FRAME_SAMPLES, MIXES};
 use numbers::whole::add_wrapped;
@@ -21,7 +21,7 @@ const FADING_GAIN: f32 = 16.0;
 fn fade_steps() -> [f32; FRAME_SAMPLES]
     ensures { result ≡ fade_steps }
 {
-    std::array::from_fn(|i| (i as f32) / 159.0)
+    std::array::from_fn(progress)
 }
 
 // A channel of the mixes by its number, and what it takes of a frame: the left samples or the right ones, also as floats.
@@ -35,7 +35,8 @@ pub struct Channel<'a> {
 }
 
 impl Channel<'_> {
-    // Adds to each value its part, which `part` makes of the number of its sample, the sample, and the sample as a float.
+    // Adds to each value its part, which `part` makes of the number of its sample, the sample, and the sample as a float. By index, since
+    // the three arrays are walked at places of their own.
     fn add_parts<F: Fn(usize, i16, f32) -> i32>(self, mixes: &mut [i32; MIXES], part: F)
         requires { (i : ℕ) → i < FRAME_SAMPLES
             → F.pre part i (slice_index_or self.frame.now (i * 2 + self.number % 2) (pos 0)) (slice_index_or self.floats.now i nan) }

@@ -3,15 +3,10 @@ ghost use Rattle.std.specs.Prelude.{◌≡◌, ◌<◌};
 ghost use Rattle.mix_voice.specs.Mixed.{ramped, floats_of};
 
 use crate::channel::Channel;
-use numbers::sizes::{FRAME, FRAME_SAMPLES, MIXES};
+use numbers::sizes::{CHANNELS, FRAME, FRAME_SAMPLES, GAINS, MIX_COUNT, MIXES};
 
-// The gains of a voice, one for each channel of each mix.
-pub const GAINS: usize = 12;
-
-// The channels of a mix.
-const CHANNELS: usize = 4;
-
-// The left samples of a frame, or the right ones, as floats. The casts are done once for all channels: the compiler does them singly.
+// The left samples of a frame, or the right ones, as floats, by the place of the side in a sample. The casts are done once for all
+// channels: the compiler does them singly.
 fn floats_of(frame: &[i16; FRAME], side: usize) -> [f32; FRAME_SAMPLES]
     requires { side < 2 }
     ensures { result ≡ floats_of frame.now side }
@@ -26,7 +21,7 @@ pub fn mix_voice(
     frame: &[i16; FRAME],
     gains: &[f32; GAINS],
     ramp: &[f32; GAINS],
-    marks: [bool; 3],
+    marks: [bool; MIX_COUNT],
 )
     ensures { mixes.new ≡ ramped marks ramp.now gains.now frame.now mixes.old }
 {

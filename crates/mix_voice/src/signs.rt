@@ -12,7 +12,7 @@ const MIDDLE: f32 = 6291456.0;
 
 const BASE: i32 = 0x4AC0_0000;
 
-const NEGATIVE_BASE: i32 = 0x4ABF_FFFF;
+const NEGATIVE_BASE: i32 = BASE - 1;
 
 // Whether a gain's size is at most `most`.
 pub fn is_within(gain: f32, most: f32) -> bool

@@ -1,14 +1,12 @@
 // The mixer's call on lent memory.
 ghost use Rattle.std.specs.Prelude.{◌≡◌, ◌+◌, ◌≤◌, ◌≢◌, IfOk, IfErr, length};
-ghost use Rattle.lists.specs.Splice.{part};
 ghost use Rattle.refusals.specs.Numbers.{number, number_of};
 ghost use Rattle.numbers.specs.Sizes.{MIXES};
-ghost use Rattle.mixer_state.specs.Configuration.{configuration_bytes};
 ghost use Rattle.mixer.specs.Inner.{Roomy, Accepted};
 ghost use Rattle.mixer.specs.Tick.{number_of as lowest_number, GivesBack, refusal, served, left, ticked};
 
-use fields::mixer_config::CONFIG_SIZE;
 use layout::Layout;
+use little::part_at;
 use mixer_frame::{frame_of, write_out};
 use mixer_state::Mixer;
 use mixer_state::configuration::{clear_dirty, parse_config};
@@ -24,14 +22,6 @@ pub struct Mixed {
     pub frame: [i16; FRAME],
 }
 
-// The configuration at a place of a region.
-fn configuration(region: &[u8], at: usize) -> &[u8; CONFIG_SIZE]
-    requires { at + configuration_bytes ≤ length region.now }
-    ensures { result.now ≡ part at configuration_bytes region.now }
-{
-    region[at..at + CONFIG_SIZE].as_array().unwrap()
-}
-
 // A call that is not refused, by the region that is read and the other one.
 fn mix(l: Layout, m: Mixer, read: &mut [u8], write: &mut [u8], given: &[i32; MIXES]) -> Mixed
     requires read_room { Roomy l (length read.old) }
@@ -41,7 +31,7 @@ fn mix(l: Layout, m: Mixer, read: &mut [u8], write: &mut [u8], given: &[i32; MIX
     ensures written { write.new ≡ (left l m given.now (read.old, write.old)).1 }
 {
     let at = l.mixer_configuration as usize;
-    let mixer = parse_config(m, configuration(read, at));
+    let mixer = parse_config(m, part_at(read, at));
     let frame = frame_of(l, mixer, read, given);
     write_out(l, mixer, given, &frame, write);
     clear_dirty(read, at);

@@ -13,7 +13,7 @@ pub const STATE: usize = 16;
 
 pub const LAYOUT: usize = 28;
 
-pub const FRAME_BYTES: usize = 640;
+pub const FRAME_BYTES: usize = FRAME * 2;
 
 // Where the switches begin in a state.
 const SWITCHES: usize = 12;

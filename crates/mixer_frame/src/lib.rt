@@ -5,13 +5,14 @@
 #![tactic(auto)]
 
 ghost use Rattle.std.specs.Prelude.{◌≡◌, cond, ◌+◌, ◌≤◌, ◌<◌, length};
-ghost use Rattle.lists.specs.Splice.{part, splice};
+ghost use Rattle.lists.specs.Splice.{splice};
 ghost use Rattle.mix_bytes.specs.Mixes.{words_in, word_bytes};
 ghost use Rattle.mix_bytes.specs.Sizes.{final_bytes, aux_bytes, intermediate_bytes};
 ghost use Rattle.mixer_frame.specs.Frame.{mix_of, frame_of, out_of};
 
 use downmix::downmix;
 use layout::Layout;
+use little::part_at;
 use mix_bytes::sizes::AUX_BYTES;
 use mix_bytes::{put_values, read_mix};
 use mixer_state::Mixer;
@@ -22,18 +23,11 @@ fn mix_of(k: usize, given: &[i32; MIXES]) -> &[i32; MIX]
     requires { k < 3 }
     ensures { result.now ≡ mix_of k given.now }
 {
-    given[k * MIX..(k + 1) * MIX].as_array().unwrap()
+    part_at(given, k * MIX)
 }
 
-// The bytes at a place of the region that is read, where a title returned a mix.
-fn returned(read: &[u8], at: usize) -> &[u8; AUX_BYTES]
-    requires { at + aux_bytes ≤ length read.now }
-    ensures { result.now ≡ part at aux_bytes read.now }
-{
-    read[at..at + AUX_BYTES].as_array().unwrap()
-}
-
-// A mix as it reaches the output: what the title made of it where its aux bus is on, else as it is given.
+// A mix as it reaches the output: what the title made of it where its aux bus is on, else as it is given. Whether it is on is a parameter
+// here and below, as in the definitions: with a branch for each bus the callers' proofs would go four ways.
 fn heard(on: bool, returned: &[u8; AUX_BYTES], given: &[i32; MIX]) -> [i32; MIX]
     ensures { result ≡ cond on (words_in returned.now) given.now }
 {
@@ -46,10 +40,10 @@ pub fn frame_of(l: Layout, state: Mixer, read: &[u8], given: &[i32; MIXES]) -> [
     ensures { result ≡ frame_of l state read.now given.now }
 {
     let at = l.intermediate_samples as usize;
-    let first = heard(state.aux[0], returned(read, at), mix_of(1, given));
+    let first = heard(state.aux[0], part_at(read, at), mix_of(1, given));
     let second = heard(
         state.aux[1],
-        returned(read, at + AUX_BYTES),
+        part_at(read, at + AUX_BYTES),
         mix_of(2, given),
     );
     let mut frame = [0i16; FRAME];

@@ -17,8 +17,10 @@
 
 ghost use Rattle.std.specs.Prelude.{◌<◌, ◌≤◌, ◌^◌};
 
+use fields::mixer_config::CONFIG_SIZE;
 use mixer::tick::{Mixed, tick};
 use mixer_forms::{layout_of, put_frame, put_state, state_of};
+use numbers::sizes::{MIX, MIXES};
 use refusals::answered;
 use replaying::{put_each, read, read_array, sum};
 
@@ -28,11 +30,11 @@ pub const ANSWER: usize = 668;
 
 const MOST_BYTES: usize = 65537;
 
-const MOST_VALUES: usize = 1921;
+// One value more than the mixes have.
+const MOST_VALUES: usize = MIXES + 1;
 
-const CONFIGURATION: usize = 44;
-
-const INTERMEDIATE: usize = 5120;
+// The values of two mixes, of four bytes each.
+const INTERMEDIATE: usize = 2 * MIX * 4;
 
 const WORDS: usize = 61;
 
@@ -66,7 +68,7 @@ fn put_at<const N: usize>(bytes: &[u8; N], at: usize, region: &mut [u8; MOST_BYT
 
 // Puts the configuration and the intermediate samples into the region that is read.
 fn put_read(part: &[u8; PART], region: &mut [u8; MOST_BYTES]) {
-    let configuration = part[64..].first_chunk::<CONFIGURATION>().unwrap();
+    let configuration = part[64..].first_chunk::<CONFIG_SIZE>().unwrap();
     put_at(configuration, size_at(part, 32), region);
     put_at(&intermediate_of(part), size_at(part, 40), region);
 }

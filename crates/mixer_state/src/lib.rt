@@ -9,6 +9,8 @@ pub mod configuration;
 ghost use Rattle.std.specs.Prelude.{◌≡◌};
 ghost use Rattle.mixer_state.specs.State.{default_mixer};
 
+use numbers::sizes::MIX_COUNT;
+
 #[derive(Clone, Copy, PartialEq, Eq)]
 pub enum Output {
     Mono,
@@ -19,18 +21,18 @@ pub enum Output {
 // and the output kind.
 #[derive(Clone, Copy)]
 pub struct Mixer {
-    pub volume: [f32; 3],
+    pub volume: [f32; MIX_COUNT],
     pub aux: [bool; 2],
     pub output: Output,
 }
 
-// The state before the first frame.
+// The state before the first frame. By hand, since the fact of a derive would not name `default_mixer`.
 impl Default for Mixer {
     ghost is_default = { λ m. m ≡ default_mixer };
 
     fn default() -> Mixer {
         Mixer {
-            volume: [0.0; 3],
+            volume: [0.0; MIX_COUNT],
             aux: [false; 2],
             output: Output::Stereo,
         }

@@ -47,7 +47,7 @@ enum Kind {
     Between,
 }
 
-// The kinds, each at its number.
+// The kinds, each at its number: a table says no number twice, as discriminants and a `TryFrom` would.
 const KINDS: [Kind; 16] = [
     Kind::Region,
     Kind::Dsp32Value,

@@ -17,6 +17,7 @@ pub fn cast_i32(x: f32) -> i32
 
 // The quick way to 16 bits: the float is held to what they reach, its size loses its fraction and is cast exactly, and the sign comes
 // back. No arm of it leaves, so that the compiler does several at a time.
+// (std's `min`, `max` and `clamp` also tell apart what is not a number, which is an arm more; its `abs` takes the sign of a 0.)
 
 // The smaller of a float and a bound, which also stands for not-a-number.
 pub fn at_most<F: Real>(x: F, bound: F) -> F

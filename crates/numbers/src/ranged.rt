@@ -17,6 +17,7 @@ pub trait Signed: Copy {
     ghost zero_in_range: { InRange zero };
 }
 
+// Two impls of one shape, as an impl that a macro writes is refused.
 impl Signed for i16 {
     ghost InRange = { λ x. mag x < 32768 };
 

@@ -25,7 +25,7 @@ pub fn product(a: i16, b: i16) -> i64
     i64::from(a) * i64::from(b)
 }
 
-// The sum of two 32-bit numbers, wrapped.
+// The sum of two 32-bit numbers, wrapped: std's, by the definition that a mix is stated with.
 pub fn add_wrapped(a: i32, b: i32) -> i32
     ensures { result ≡ wrap32 (a +ℤ b) }
 {

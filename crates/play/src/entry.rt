@@ -10,8 +10,8 @@ use stretches::entry::play_on;
 use track::player::Player;
 use track::put;
 
-// The frame and how many of its samples are there already are two parameters: one struct of both would hold a `&mut`, beside which no ghost
-// field can say that they are no more than the frame has.
+// The frame and how many of its samples are there already are two parameters: a struct of both would hold a `&mut`, beside which no ghost
+// field can stand, and of the rest of the frame as a slice each contract would ask that its length is even.
 
 // Plays a sample at a time: at least one, and on until the frame is full or nothing remains.
 fn play_plain(player: Player<'_>, frame: &mut [i16; FRAME], output: usize) -> Reached

@@ -15,6 +15,7 @@ pub fn push(mut v: Voice, e: Entry) -> Voice
     v
 }
 
+// One after the other, as the definition has it: a copy of the slice would need a law that says so, and that is longer.
 pub fn push_entries(mut v: Voice, entries: &[Entry]) -> Voice
     requires { v.queued + length entries.now ≤ places }
     ensures { result ≡ pushed_all entries.now v }

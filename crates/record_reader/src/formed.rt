@@ -4,12 +4,10 @@ ghost use Rattle.adpcm.specs.Sizes.{most_samples};
 ghost use Rattle.voice.specs.Malformed.{WellFormed};
 
 use crate::{RECORD, record_of};
+use adpcm::MOST_SAMPLES;
 use refusals::Refusal;
 use voice::malformed::malformed;
 use voice::record::Voice;
-
-// The most samples that a lane has.
-const MOST_SAMPLES: usize = 65536;
 
 // For a lane of so many samples.
 pub fn formed_record(bytes: &[u8; RECORD], lane: usize) -> Result<Voice, Refusal>

@@ -32,7 +32,8 @@ pub const RECORD: usize = 2456;
 
 pub const ENTRY: usize = 24;
 
-// Of these codes, too, one above the last is the last.
+// Of these codes, too, one above the last is the last. A function and no
+// `From<u8>`, which would stand beside the enum, while other bytes mean it elsewhere.
 fn interpolation_of(code: u8) -> Interpolation {
     match code {
         0 => Interpolation::Polyphase,

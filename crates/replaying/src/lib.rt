@@ -9,10 +9,7 @@ use stored::InBytes;
 
 // The value that the bytes begin with, or that of zeros where they are too few.
 pub fn read<const N: usize, T: InBytes<N>>(bytes: &[u8]) -> T {
-    match bytes.first_chunk::<N>() {
-        Some(first) => T::of(*first),
-        None => T::of([0; N]),
-    }
+    T::of(*bytes.first_chunk::<N>().unwrap_or(&[0; N]))
 }
 
 // Puts a value where the bytes begin, or nothing where they are too few.

@@ -1,19 +1,20 @@
 // What follows a job's head: the bytes of all that the call is lent.
 ghost use Rattle.std.specs.Prelude.{◌≡◌, ◌/◌, length, min};
 
+use numbers::sizes::{MIXES, VOICES};
 use replaying::answering::{Stop, read_all};
 use replaying::read_each;
 use replaying::stored::InBytes;
 use std::io;
 
 // The most records that a job has, one more than there are voices.
-pub const MOST_RECORDS: usize = 25;
+pub const MOST_RECORDS: usize = VOICES + 1;
 
 // One sample more than the lanes of 24 voices have, with 2,048 for each.
-pub const MOST_SAMPLES: usize = 49153;
+pub const MOST_SAMPLES: usize = VOICES * 2048 + 1;
 
 // One value more than the mixes have.
-pub const MOST_VALUES: usize = 1921;
+pub const MOST_VALUES: usize = MIXES + 1;
 
 // The values that the bytes hold, in the first places.
 pub fn filled<'a, const N: usize, T: InBytes<N>>(bytes: &[u8], places: &'a mut [T]) -> &'a mut [T]

@@ -1,12 +1,10 @@
 // A configuration. The job: the lane's length, 32 bits, at most 65,536; a record; its configuration, 192 bytes; its coefficients, 32 bytes.
 // The answer: the number and three zeros; the record and the configuration after it. A malformed record is answered 7, all else as it was.
 use crate::written::write_answer;
+use adpcm::MOST_SAMPLES;
 use refusals::answered;
 use replaying::answering::{Stop, read_bytes, read_word};
 use voice_jobs::configuration::configure;
-
-// The most samples that a lane has.
-const MOST_SAMPLES: usize = 65536;
 
 pub fn answer(rt: &HostRuntime) -> Result<(), Stop> {
     let lane = read_word(rt)? as usize;

@@ -1,7 +1,7 @@
 // Of module 5, one sample of an entry. A PCM sample is read out of the window as it plays: `pcm8_mono` and its like, document 01's named
 // readers, take the window and the sample's address, and give both channels, of a mono sample the same twice. One look-up serves both
 // channels, and where a byte is absent both are 0. An ADPCM sample comes from the lane, where it was decoded: `decoded_at`. `sample_at` is
-// the sample at an index of an entry of any kind. Nothing is refused; the lane is asked to hold what was decoded.
+// the sample at an index of an entry of any kind. Nothing is refused or asked: of the lane, what was decoded is handed.
 #![tactic(auto)]
 
 ghost use Rattle.std.specs.Prelude.{◌≡◌, ◌+◌, ◌*◌, ◌%◌, ◌^◌, ◌≤◌, length};
@@ -94,15 +94,14 @@ pub fn pcm16_stereo(window: Window<'_>, address: u32) -> Sample
     sides_of(bytes)
 }
 
-// The sample of the lane at an index, where so many were decoded.
-pub fn decoded_at(lane: &[i16], decoded: u32, index: u32) -> Sample
-    requires { decoded ≤ length lane.now }
-    ensures { result ≡ decoded_at lane.now decoded index }
+// The sample at an index of those that were decoded.
+pub fn decoded_at(decoded: &[i16], index: u32) -> Sample
+    ensures { result ≡ decoded_at decoded.now (length decoded.now) index }
 {
-    if index < decoded {
-        return alike(lane[index as usize]);
-    }
-    silent()
+    let Some(value) = decoded.get(index as usize) else {
+        return silent();
+    };
+    alike(*value)
 }
 
 // Where the sample at an index stands, of samples of so many bytes.
@@ -115,15 +114,14 @@ fn address_of(address: u32, index: u32, size: u32) -> u32
 
 // The sample at an index of an entry.
 #[tactic(auto, unfolding(crate::specs::Samples::sample_at))]
-pub fn sample_at(window: Window<'_>, lane: &[i16], decoded: u32, e: Entry, index: u32) -> Sample
-    requires { decoded ≤ length lane.now }
-    ensures { result ≡ sample_at window.entry.bytes.now window.entry.base lane.now decoded e index }
+pub fn sample_at(window: Window<'_>, decoded: &[i16], e: Entry, index: u32) -> Sample
+    ensures { result ≡ sample_at window.entry.bytes.now window.entry.base decoded.now (length decoded.now) e index }
 {
     match (e.format, e.stereo) {
         (Format::Pcm8, false) => pcm8_mono(window, address_of(e.address, index, 1)),
         (Format::Pcm8, true) => pcm8_stereo(window, address_of(e.address, index, 2)),
         (Format::Pcm16, false) => pcm16_mono(window, address_of(e.address, index, 2)),
         (Format::Pcm16, true) => pcm16_stereo(window, address_of(e.address, index, 4)),
-        (Format::Adpcm, _) => decoded_at(lane, decoded, index),
+        (Format::Adpcm, _) => decoded_at(decoded, index),
     }
 }

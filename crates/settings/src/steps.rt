@@ -8,10 +8,11 @@ use crate::dirty::flag;
 use fields::config;
 use fields::config::CONFIG_SIZE;
 use little::{read_dsp32, read16, read32, signed_halves};
+use numbers::sizes::COEFFICIENTS;
 use voice::record::{Format, Interpolation, Voice};
 
-// How many bytes a voice's coefficients take: 16 of 16 bits.
-pub const COEFFICIENT_BYTES: usize = 32;
+// How many bytes a voice's coefficients take, of 16 bits each.
+pub const COEFFICIENT_BYTES: usize = COEFFICIENTS * 2;
 
 #[tactic(auto, unfolding(crate::specs::Steps::reset_step))]
 pub fn reset_step(v: Voice, bytes: &[u8; CONFIG_SIZE]) -> Voice

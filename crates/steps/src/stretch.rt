@@ -19,7 +19,7 @@ pub struct Reached {
     pub count: usize,
 }
 
-// A whole number as a count.
+// A whole number as a count. (`cast_u32` would find the whole part again.)
 fn counted(w: f64) -> usize
     requires { w ≡ double (pos (cast_u32 w)) }
     ensures value { result ≡ cast_u32 w }
@@ -54,6 +54,7 @@ fn one_from(x: f64, above: f64) -> f64
     if x < above { 0.0 } else { 1.0 }
 }
 
+// Two comparisons each, as the definitions have them.
 fn is_part(fraction: f64) -> bool
     ensures { result ≡ is_part fraction }
 {

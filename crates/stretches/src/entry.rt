@@ -13,8 +13,8 @@ use steps::plain::reach;
 use steps::stretch::{Course, Reached};
 use track::player::Player;
 
-// The frame and how many of its samples are there already are two parameters: one struct of both would hold a `&mut`, beside which no ghost
-// field can say that they are no more than the frame has.
+// The frame and how many of its samples are there already are two parameters: a struct of both would hold a `&mut`, beside which no ghost
+// field can stand, and of the rest of the frame as a slice each contract would ask that its length is even.
 impl Ready<'_> {
     // At rate 1.0 from a fraction of 0.0: the samples as they are.
     fn run(self, frame: &mut [i16; FRAME], output: usize) -> Reached

@@ -45,8 +45,8 @@ pub struct Noted<'a> {
     pub ghost within: { (i : ℕ) → i < length places.now → get_or places.now i 0 + 1 < source.played.length },
 }
 
-// The frame and how many of its samples are there already are two parameters: one struct of both would hold a `&mut`, beside which no ghost
-// field can say that they are no more than the frame has.
+// The frame and how many of its samples are there already are two parameters: a struct of both would hold a `&mut`, beside which no ghost
+// field can stand, and of the rest of the frame as a slice each contract would ask that its length is even.
 impl Noted<'_> {
     // The sample at a place.
     fn here(&self, i: usize) -> Sample

@@ -22,8 +22,8 @@ fn size_of(e: Entry) -> u32
     }
 }
 
-// The bytes of a PCM entry, or none where one is absent or lies past the last address. No `Option`: as document 01's look-up it hands back
-// the empty part where a byte is absent, and `is_held` is the test beside it.
+// The bytes of a PCM entry, or none where one is absent or lies past the last address. No `Option`: an ADPCM entry is at hand without its
+// bytes, for which an empty part would have to stand again.
 #[tactic(auto, unfolding(crate::specs::Source::entry_bytes))]
 fn entry_bytes<'a>(window: Window<'a>, e: Entry) -> &'a [u8]
     ensures { result.now ≡ entry_bytes window.entry.bytes.now window.entry.base e }
@@ -60,7 +60,7 @@ fn is_held(bytes: &[u8], decoded: u32, e: Entry) -> bool
 {
     match e.format {
         Format::Adpcm => e.length <= decoded,
-        _ => bytes.len() > 0,
+        _ => !bytes.is_empty(),
     }
 }
 

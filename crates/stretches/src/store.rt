@@ -19,8 +19,8 @@ pub fn stored_at(frame: &[i16; FRAME], k: usize) -> Sample
     }
 }
 
-// So many samples that a closure gives, from a place of the frame on. Frame and place are two parameters: one struct of both would hold a
-// `&mut`, beside which no ghost field can say that the place is in the frame.
+// So many samples that a closure gives, from a place of the frame on. Frame and place are two parameters: a struct of both would hold a
+// `&mut`, beside which no ghost field can stand, and of the rest of the frame as a slice it would be asked that its length is even.
 pub fn store<F: Fn(usize) -> Sample>(
     frame: &mut [i16; FRAME],
     output: usize,

@@ -32,7 +32,7 @@ pub struct Track {
 
 impl Track {
     // The sample at a place of the entry, and past its end its last.
-    #[tactic(auto, unfolding(crate::specs::Track::heard_at))]
+    #[tactic(auto, using(samples::proofs::Decoded::sample_cut), unfolding(crate::specs::Track::heard_at))]
     pub fn heard_at(self, window: Window<'_>, lane: &[i16], place: usize) -> Sample
         requires { self.decoded ≤ length lane.now }
         ensures { result ≡ heard_at window.entry.bytes.now window.entry.base lane.now self place }
@@ -41,7 +41,8 @@ impl Track {
             return silent();
         };
         let last = e.length.saturating_sub(1) as usize;
-        sample_at(window, lane, self.decoded, e, place.min(last) as u32)
+        let decoded = &lane[..self.decoded as usize];
+        sample_at(window, decoded, e, place.min(last) as u32)
     }
 }
 

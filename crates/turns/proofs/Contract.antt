@@ -6,6 +6,8 @@ use Prim.Native.Nat.{ℕ, zero, suc}
 use native.Mathlib.Omega.{arith}
 use lib.IntN.{ℤ}
 use Rattle.std.specs.Prelude.{Result, Ok, Err}
+use Rattle.std.specs.Result.{IsErrAnd}
+use Rattle.std.proofs.lemmas.Result.{err_from_is_err_and}
 use Rattle.arrayvec.specs.ArrayVec.{ArrayVec}
 use Rattle.refusals.specs.declared.Refusal.{Refusal as Reason}
 use Rattle.refusals.specs.Numbers.{number, number_of}
@@ -28,6 +30,10 @@ unfolding refusals
 no_refusals zero fx x order h = absurd (h refl)
 no_refusals (suc n) fx x order h = refl
 
+-- this refusal is what `?` gives back
+abbrev pub GivenBack : Reason → Result (ArrayVec RefusedVoice) Reason → Type 0
+GivenBack e r = IsErrAnd r (λ y. y ≡ e)
+
 module _ (n : ℕ) (left : Lent) (Lists : List Refusal → Type 0) where
   -- what is ensured
   abbrev pub Leaves : Result (ArrayVec RefusedVoice) Reason → Lent → Type 0
@@ -41,8 +47,10 @@ module _ (n : ℕ) (left : Lent) (Lists : List Refusal → Type 0) where
   module _
       (x : Lent) (stays : (n ≡ 0 → ⊥) → x ≡ left) (none : (n ≡ 0 → ⊥) → Lists [])
       (code late : ℕ) (is_else : n ≡ or_else code late) where
-    refused_with : (e : Reason) → number e ≡ n → (r : Result (ArrayVec RefusedVoice) Reason) → r ≡ Err e → Leaves r x
-    refused_with e is r at =
+    refused_with : (e : Reason) → number e ≡ n → (r : Result (ArrayVec RefusedVoice) Reason) → GivenBack e r → Leaves r x
+    refused_with e is r given_back =
+        let p = err_from_is_err_and r given_back in
+        let at : r ≡ Err e = p.1 ∙ ap Err p.2 in
         let not_0 : n ≡ 0 → ⊥ = λ z. omega (arith, positive e, is, z) in
         let same = stays not_0 in (
           ap number_of at ∙ is,
@@ -54,11 +62,11 @@ module _ (n : ℕ) (left : Lent) (Lists : List Refusal → Type 0) where
           subst Lists (sym (ap given at)) (none not_0),
         )
 
-    pub refused_by_lengths : (e : Reason) → number e ≡ code → (r : Result (ArrayVec RefusedVoice) Reason) → r ≡ Err e → Leaves r x
+    pub refused_by_lengths : (e : Reason) → number e ≡ code → (r : Result (ArrayVec RefusedVoice) Reason) → GivenBack e r → Leaves r x
     refused_by_lengths e is =
         refused_with e (is ∙ sym (is_else ∙ first_one code late (λ z. omega (arith, positive e, is, z))))
 
-    pub refused_later : (e : Reason) → code ≡ 0 → number e ≡ late → (r : Result (ArrayVec RefusedVoice) Reason) → r ≡ Err e → Leaves r x
+    pub refused_later : (e : Reason) → code ≡ 0 → number e ≡ late → (r : Result (ArrayVec RefusedVoice) Reason) → GivenBack e r → Leaves r x
     refused_later e zero_is is = refused_with e (is ∙ sym (is_else ∙ ap (λ (k : ℕ). or_else k late) zero_is))
 
   -- ---- served

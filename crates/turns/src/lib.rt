@@ -5,7 +5,7 @@
 ghost use Rattle.std.specs.Prelude.{◌≡◌, ◌<◌, length, set, get_or};
 ghost use Rattle.refusals.specs.Numbers.{number_of as code};
 ghost use Rattle.numbers.specs.Sizes.{MIXES};
-ghost use Rattle.stems.specs.Memory.{VOICES, lane_length};
+ghost use Rattle.stems.specs.Memory.{lane_length};
 ghost use Rattle.stems.specs.Inner.{LongAs};
 ghost use Rattle.voice.specs.Blank.{default_voice};
 ghost use Rattle.voice.specs.Malformed.{WellFormed};
@@ -13,6 +13,7 @@ ghost use Rattle.voice_frame.specs.VoiceFrame.{number_of};
 ghost use Rattle.calls.specs.Begin.{Fitting, is_second};
 ghost use Rattle.voice_turn.specs.Turn.{answer_to, record_by, region0_by, region1_by, lanes_by, mixes_by};
 
+use calls::voice_number::VoiceNumber;
 use numbers::sizes::MIXES;
 use refusals::Refusal;
 use region::Region;
@@ -25,7 +26,7 @@ use voice_turn::turn::take_turn;
 // Memory is lent thing by thing: a struct of `&mut` would need in each contract, beside what each thing becomes, that it is the same loan.
 pub fn serve_at(
     voices: &mut [Voice],
-    i: usize,
+    i: VoiceNumber,
     read: Region,
     fixed: Fixed,
     region0: &mut [u8],
@@ -34,27 +35,26 @@ pub fn serve_at(
     lanes: &mut [i16],
     mixes: &mut [i32; MIXES],
 ) -> Result<(), Refusal>
-    requires lent { i < length voices.old }
-    requires a_voice { i < VOICES }
-    requires well_formed { WellFormed (lane_length (length lanes.old)) (get_or voices.old i default_voice) }
+    requires lent { i.number < length voices.old }
+    requires well_formed { WellFormed (lane_length (length lanes.old)) (get_or voices.old i.number default_voice) }
     requires fitting { Fitting fixed (length region0.old) (length region1.old) (length window.now) (length lanes.old) MIXES }
-    ensures number { code result ≡ number_of (answer_to fixed (is_second read) i (get_or voices.old i default_voice)
+    ensures number { code result ≡ number_of (answer_to fixed (is_second read) i.number (get_or voices.old i.number default_voice)
         region0.old region1.old window.now lanes.old) }
-    ensures voices { voices.new ≡ set voices.old i (record_by (get_or voices.old i default_voice) i (is_second read) fixed
-        region0.old region1.old window.now lanes.old mixes.old) }
-    ensures region0 { region0.new ≡ region0_by (get_or voices.old i default_voice) i (is_second read) fixed
+    ensures voices { voices.new ≡ set voices.old i.number (record_by (get_or voices.old i.number default_voice) i.number
+        (is_second read) fixed region0.old region1.old window.now lanes.old mixes.old) }
+    ensures region0 { region0.new ≡ region0_by (get_or voices.old i.number default_voice) i.number (is_second read) fixed
         region0.old region1.old window.now lanes.old mixes.old }
-    ensures region1 { region1.new ≡ region1_by (get_or voices.old i default_voice) i (is_second read) fixed
+    ensures region1 { region1.new ≡ region1_by (get_or voices.old i.number default_voice) i.number (is_second read) fixed
         region0.old region1.old window.now lanes.old mixes.old }
-    ensures lanes { lanes.new ≡ lanes_by (get_or voices.old i default_voice) i (is_second read) fixed
+    ensures lanes { lanes.new ≡ lanes_by (get_or voices.old i.number default_voice) i.number (is_second read) fixed
         region0.old region1.old window.now lanes.old mixes.old }
-    ensures mixes { mixes.new ≡ mixes_by (get_or voices.old i default_voice) i (is_second read) fixed
+    ensures mixes { mixes.new ≡ mixes_by (get_or voices.old i.number default_voice) i.number (is_second read) fixed
         region0.old region1.old window.now lanes.old mixes.old }
-    ensures long { LongAs (lane_length (length lanes.old)) (answer_to fixed (is_second read) i (get_or voices.old i default_voice)
-        region0.old region1.old window.now lanes.old) }
+    ensures long { LongAs (lane_length (length lanes.old)) (answer_to fixed (is_second read) i.number
+        (get_or voices.old i.number default_voice) region0.old region1.old window.now lanes.old) }
 {
     take_turn(
-        &mut voices[i],
+        &mut voices[i.number],
         i,
         read,
         fixed,

@@ -5,12 +5,13 @@ ghost use Rattle.voice.specs.Blank.{default_voice};
 use crate::record::{Entry, Format, Interpolation, Voice};
 use adpcm::History;
 use filters::state::Filters;
+use numbers::sizes::{COEFFICIENTS, FRAME, GAINS, MIX_COUNT};
 
 // How many entries a record has room for.
 pub const PLACES: usize = 64;
 
-// How many of them may be queued.
-pub const LIMIT: usize = 64;
+// How many of them may be queued, all of them: two names, since of a lent record more may be counted.
+pub const LIMIT: usize = PLACES;
 
 // A value under a mark: it stays where the mark is on, and its blank stands where the mark is off.
 pub fn kept_if<T: Copy>(on: bool, value: T, blank: T) -> T
@@ -32,10 +33,10 @@ impl Default for Voice {
             interpolation: Interpolation::Polyphase,
             stereo: false,
             filters: Filters::default(),
-            gain: [0.0; 12],
-            has_ramp: [false; 3],
-            ramp: [0.0; 12],
-            coefficients: [0; 16],
+            gain: [0.0; GAINS],
+            has_ramp: [false; MIX_COUNT],
+            ramp: [0.0; GAINS],
+            coefficients: [0; COEFFICIENTS],
             history: History::default(),
             queue: [Entry::default(); PLACES],
             queued: 0,
@@ -49,7 +50,7 @@ impl Default for Voice {
             last_buffer_id: 0,
             buffer_update: false,
             position: 0,
-            frame: [0; 320],
+            frame: [0; FRAME],
             ran_out_at_frame_end: false,
         }
     }

@@ -8,6 +8,7 @@ use crate::record::{Entry, Format, Voice};
 use filters::range::filters_in_range;
 use numbers::tests::{is_fraction, is_rate};
 
+// The derived equality, tied to the definition that others cite.
 pub fn is_adpcm(format: Format) -> bool
     ensures { result ≡ is_adpcm format }
 {
@@ -39,5 +40,5 @@ pub fn malformed(v: &Voice, lane: usize) -> bool
         || any_too_long(&v.queue[..v.queued], lane)
         || !is_rate(v.rate)
         || !is_fraction(v.fraction)
-        || !filters_in_range(v.filters)
+        || !filters_in_range(&v.filters)
 }

@@ -3,6 +3,7 @@
 use crate::blank::PLACES;
 use adpcm::History;
 use filters::state::Filters;
+use numbers::sizes::{COEFFICIENTS, FRAME, GAINS, MIX_COUNT};
 
 #[derive(Clone, Copy, PartialEq, Eq, Default)]
 pub enum Format {
@@ -22,6 +23,7 @@ pub enum Interpolation {
 
 // An entry of the queue, the source's `Buffer`. The fields stand by their sizes, so that there are no gaps between them: entries are most
 // of a record, and a record is copied often.
+// An entry is small, 28 bytes, and is taken by value where it is only read.
 #[derive(Clone, Copy, Default)]
 pub struct Entry {
     pub address: u32,
@@ -51,11 +53,11 @@ pub struct Voice {
     // each filter with its mark beside it, as document 01's record has them
     pub filters: Filters,
     // by mix, then channel: flat, as in document 01's record
-    pub gain: [f32; 12],
+    pub gain: [f32; GAINS],
     // the gains that a mix fades from, where its mark is on: document 01's record has the marks beside them, so these are no `Option`s
-    pub has_ramp: [bool; 3],
-    pub ramp: [f32; 12],
-    pub coefficients: [i16; 16],
+    pub has_ramp: [bool; MIX_COUNT],
+    pub ramp: [f32; GAINS],
+    pub coefficients: [i16; COEFFICIENTS],
     pub history: History,
     // document 01's 64-place queue with its count: the places past the count are blank, so this is no `ArrayVec`
     pub queue: [Entry; PLACES],
@@ -72,6 +74,6 @@ pub struct Voice {
     pub last_buffer_id: u16,
     pub buffer_update: bool,
     pub position: u32,
-    pub frame: [i16; 320],
+    pub frame: [i16; FRAME],
     pub ran_out_at_frame_end: bool,
 }

@@ -6,6 +6,7 @@ use crate::blank::{PLACES, kept_if};
 use crate::record::{Entry, Voice};
 use adpcm::History;
 use filters::state::{BiquadFilter, Filters, SimpleFilter};
+use numbers::sizes::{CHANNELS, GAINS, MIX_COUNT};
 
 // An entry: its history is blank where the mark of that is off.
 #[tactic(auto, unfolding(crate::specs::Tidy::tidy_entry))]
@@ -41,11 +42,11 @@ fn tidy_queue(queue: &mut [Entry; PLACES], queued: usize)
 }
 
 // The ramps by the marks of their mixes, four numbers to a mix.
-fn tidy_ramp(ramp: &mut [f32; 12], marks: [bool; 3])
+fn tidy_ramp(ramp: &mut [f32; GAINS], marks: [bool; MIX_COUNT])
     ensures { ramp.new ≡ tidy_ramp marks ramp.old }
 {
     for (k, gain) in ramp.iter_mut().enumerate() {
-        *gain = kept_if(marks[k / 4], *gain, 0.0);
+        *gain = kept_if(marks[k / CHANNELS], *gain, 0.0);
     }
 }
 

@@ -16,7 +16,7 @@ use crate::sound::sound;
 use config::parse::configure;
 use fields::config::{CONFIG_SIZE, DIRTY};
 use fields::status::STATUS_SIZE;
-use numbers::sizes::MIXES;
+use numbers::sizes::{MIX_COUNT, MIXES};
 use refusals::Refusal;
 use settings::steps::COEFFICIENT_BYTES;
 use status::write_status;
@@ -28,7 +28,7 @@ use window::Window;
 fn leave(v: &mut Voice)
     ensures { v.new ≡ left v.old }
 {
-    v.has_ramp = [false; 3];
+    v.has_ramp = [false; MIX_COUNT];
     v.buffer_update = false;
     tidy(v);
 }

@@ -15,14 +15,14 @@ use voice::record::Voice;
 use window::Window;
 
 // So many samples of a frame through the filters, which are left as they then are.
-fn pass(given: Filters, frame: &mut [i16; FRAME], produced: usize) -> Filters
-    requires filters_in_range { T (filters_in_range given) }
+fn pass(filters: &mut Filters, frame: &mut [i16; FRAME], produced: usize)
+    requires filters_in_range { T (filters_in_range filters.old) }
     requires within_frame { produced ≤ FRAME_SAMPLES }
-    ensures frame { frame.new ≡ passed_from 0 given (take (produced * 2) frame.old) ++ drop (produced * 2) frame.old }
-    ensures filters { result ≡ filters_after 0 given (take (produced * 2) frame.old) }
+    ensures frame { frame.new ≡ passed_from 0 filters.old (take (produced * 2) frame.old) ++ drop (produced * 2) frame.old }
+    ensures filters { filters.new ≡ filters_after 0 filters.old (take (produced * 2) frame.old) }
 {
     let end = produced * 2;
-    process(given, &mut frame[..end])
+    process(filters, &mut frame[..end]);
 }
 
 // Plays an enabled voice's frame, and has what was produced filtered. A voice that is not enabled stays as it is.
@@ -40,6 +40,6 @@ pub fn sound(v: &mut Voice, window: Window<'_>, lane: &mut [i16])
     let played = play_frame(*v, window, lane);
     *v = played.voice;
     if v.filters.has_simple || v.filters.has_biquad {
-        v.filters = pass(v.filters, &mut v.frame, played.produced);
+        pass(&mut v.filters, &mut v.frame, played.produced);
     }
 }

@@ -17,7 +17,7 @@ pub fn record(lane: usize, bytes: &mut [u8; RECORD]) -> Result<(), Refusal> {
 }
 
 // Serves a voice's configuration. Of a record that is served, what is off or past the count is blank after it; one that is refused is
-// untouched.
+// untouched, and written back as it was read.
 pub fn configure(
     lane: usize,
     bytes: &mut [u8; RECORD],

@@ -14,7 +14,7 @@ pub fn filtered(v: Voice, count: usize) -> Voice
     requires { T (filters_in_range v.filters) × (count ≤ FRAME_SAMPLES) }
 {
     let mut w = v;
-    w.filters = process(v.filters, &mut w.frame[..count * 2]);
+    process(&mut w.filters, &mut w.frame[..count * 2]);
     w
 }
 
@@ -23,7 +23,7 @@ pub fn filter(count: usize, bytes: &mut [u8; RECORD]) -> bool
     requires { count ≤ FRAME_SAMPLES }
 {
     let v = record_of(bytes);
-    if !filters_in_range(v.filters) {
+    if !filters_in_range(&v.filters) {
         return false;
     }
     put_record(&filtered(v, count), bytes);

@@ -15,7 +15,7 @@ use window::Window;
 fn heard(played: Played) -> Voice {
     let v = played.voice;
     let f = v.filters;
-    if (f.has_simple || f.has_biquad) && played.produced <= FRAME_SAMPLES && filters_in_range(f) {
+    if (f.has_simple || f.has_biquad) && played.produced <= FRAME_SAMPLES && filters_in_range(&f) {
         return filtered(v, played.produced);
     }
     v

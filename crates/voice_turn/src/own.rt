@@ -2,8 +2,6 @@
 ghost use Rattle.std.specs.Prelude.{◌≡◌, ◌+◌, ◌≤◌, true, false, length};
 ghost use Rattle.std.specs.Result.{result_unwrap_or};
 ghost use Rattle.refusals.specs.Numbers.{number_of as code};
-ghost use Rattle.lists.specs.Splice.{part};
-ghost use Rattle.settings.specs.Steps.{coefficient_bytes};
 ghost use Rattle.fields.specs.Fields.{configuration, status, total};
 ghost use Rattle.adpcm.specs.Sizes.{most_samples};
 ghost use Rattle.numbers.specs.Sizes.{MIXES};
@@ -17,6 +15,7 @@ ghost use Rattle.voice_turn.specs.Turn.{Room, answer_to, region_by, lanes_with};
 use calls::refused::VOICES;
 use fields::config::CONFIG_SIZE;
 use fields::status::STATUS_SIZE;
+use little::part_at;
 use numbers::sizes::MIXES;
 use refusals::Refusal;
 use settings::steps::COEFFICIENT_BYTES;
@@ -25,19 +24,10 @@ use voice::record::Voice;
 use voice_frame::serve::serve;
 use window::Window;
 
-// A voice's coefficients, which stand at a place of a region.
-fn coefficients_at(region: &[u8], at: usize) -> [u8; COEFFICIENT_BYTES]
-    requires { at + coefficient_bytes ≤ length region.now }
-    ensures { result ≡ part at coefficient_bytes region.now }
-{
-    *region[at..at + COEFFICIENT_BYTES]
-        .first_chunk::<COEFFICIENT_BYTES>()
-        .unwrap()
-}
-
 // Serves a voice's frame on its own parts, whose lengths are those of the arrays that a frame takes.
 // That the record is well-formed for the lane, and the lane's bound, are asked for and no facts of a type: they hold between a record and a
 // lane of variable length, document 01's record may be malformed, and a ghost fact of a struct that holds a `&mut` is not covered.
+// Takes slices: where the lending function itself turns a part into an array, all it knows of the part at its return is the length.
 fn serve_parts(
     v: Voice,
     lane: &mut [i16],
@@ -70,6 +60,7 @@ fn serve_parts(
 }
 
 // Serves voice i's frame, or refuses the voice, by the region that is read and the other one.
+// The window's bytes come without their base, which is fixed over a run and stands in `Fixed`.
 pub fn serve_in(
     v: Voice,
     i: usize,
@@ -99,7 +90,7 @@ pub fn serve_in(
 {
     let l = fixed.layout;
     let place = l.coefficients as usize + COEFFICIENT_BYTES * i;
-    let coefficients = coefficients_at(read, place);
+    let coefficients = *part_at(read, place);
     let start = l.configurations as usize + CONFIG_SIZE * i;
     let told = l.statuses as usize + STATUS_SIZE * i;
     let lane = lanes.len() / VOICES;

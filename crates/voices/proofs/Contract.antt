@@ -8,7 +8,7 @@ use Prim.Native.Nat.{ℕ, zero, suc, ◌<◌}
 use native.Mathlib.Omega.{arith}
 use lib.IntN.{ℤ}
 use lib.ListN.{length}
-use Rattle.std.specs.Prelude.{Result, Ok, Err}
+use Rattle.std.specs.Prelude.{Result, Ok}
 use Rattle.arrayvec.specs.ArrayVec.{ArrayVec}
 use Rattle.refusals.specs.declared.Refusal.{Refusal as Reason}
 use Rattle.refusals.specs.Numbers.{number}
@@ -30,7 +30,7 @@ use Rattle.calls.specs.Lent.{lent}
 use Rattle.calls.specs.declared.refused.RefusedVoice.{RefusedVoice}
 use Rattle.turns.specs.Turns.{State, LongAt}
 use Rattle.turns.proofs.Begun.{each_formed, room, all_voices_lem}
-use Rattle.turns.proofs.Contract.{no_refusals, refused_by_lengths, refused_later, served}
+use Rattle.turns.proofs.Contract.{GivenBack, no_refusals, refused_by_lengths, refused_later, served}
 use Rattle.turns.proofs.Turns.{memory_of}
 use Rattle.voices.specs.Inner.{AllFormed}
 use Rattle.voices.specs.Tick.{left, RefusedBy, Ensured}
@@ -72,11 +72,11 @@ module _ (fx : Fixed) (r0 r1 w : List ℕ) (ys : List Voice) (lanes mixes : List
     is = sym (no_refusals (whole_number fx x) fx x all_voices h);
   }
 
-  pub refused_call : (e : Reason) → number e ≡ code → (r : Result (ArrayVec RefusedVoice) Reason) → r ≡ Err e → Ensured fx x r x
+  pub refused_call : (e : Reason) → number e ≡ code → (r : Result (ArrayVec RefusedVoice) Reason) → GivenBack e r → Ensured fx x r x
   refused_call =
       refused_by_lengths (whole_number fx x) (left fx x) (RefusedBy fx x) x untouched none_listed code seven number_is
 
-  pub malformed_call : (e : Reason) → code ≡ 0 → number e ≡ seven → (r : Result (ArrayVec RefusedVoice) Reason) → r ≡ Err e
+  pub malformed_call : (e : Reason) → code ≡ 0 → number e ≡ seven → (r : Result (ArrayVec RefusedVoice) Reason) → GivenBack e r
       → Ensured fx x r x
   malformed_call = refused_later (whole_number fx x) (left fx x) (RefusedBy fx x) x untouched none_listed code seven number_is
 

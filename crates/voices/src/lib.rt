@@ -17,13 +17,15 @@ ghost use Rattle.voices.specs.Tick.{Ensured};
 use calls::begin::begin;
 use calls::refusal::{accept_lent, accept_records};
 use calls::refused::{Refused, VOICES, note};
+use calls::voice_number::VoiceNumber;
 use numbers::sizes::MIXES;
 use refusals::Refusal;
 use stems::Fixed;
 use turns::serve_at;
 use voice::record::Voice;
 
-// Begins the call, and gives each voice its turn, voice 0 first. Memory is lent thing by thing, as `turns` takes it.
+// Begins the call, and gives each voice its turn, voice 0 first, by its number and not over the slice: `turns` serves one of the slice for
+// both calls. Memory is lent thing by thing, as `turns` takes it.
 fn serve_all(
     voices: &mut [Voice],
     fixed: Fixed,
@@ -55,10 +57,11 @@ fn serve_all(
     let read = begin(fixed, region0, region1, mixes);
     let mut refused = Refused::new();
     for i in 0..VOICES {
+        let voice = VoiceNumber { number: i };
         let outcome = serve_at(
-            voices, i, read, fixed, region0, region1, window, lanes, mixes,
+            voices, voice, read, fixed, region0, region1, window, lanes, mixes,
         );
-        note(&mut refused, i, outcome);
+        note(&mut refused, voice, outcome);
     }
     refused
 }

@@ -17,13 +17,14 @@ returns c =
     let mixes = c.begin-read.ensures.mixes in
     -- the turn began with no mix value
     let start = beginning a.voices.now a.region0.now a.region1.now a.lanes.now in
-    let begun : serve_one a.fixed a.window.now (is_second c.begin-read.result) a.voice (record start { mixes = c.begin-read.new.mixes })
+    let begun : serve_one a.fixed a.window.now (is_second c.begin-read.result) a.voice.number
+    (record start { mixes = c.begin-read.new.mixes })
     ≡ _ =
-    λ j. serve_one a.fixed a.window.now (region j) a.voice (record start { mixes = mixes j }) in
+    λ j. serve_one a.fixed a.window.now (region j) a.voice.number (record start { mixes = mixes j }) in
     let none : refusals_of c.new-refused.result.items ≡ [] = ap refusals_of c.new-refused.ensures in record {
       refused =
           c.note.ensures.items
-          ∙ (λ j. refused_after a.voice (e.number j) (none j)) ∙ ap (λ (s : State). s.refused) begun;
+          ∙ (λ j. refused_after a.voice.number (e.number j) (none j)) ∙ ap (λ (s : State). s.refused) begun;
       voices = e.voices ∙ ap (λ (s : State). s.voices) begun;
       region0 = e.region0 ∙ ap (λ (s : State). s.region0) begun;
       region1 = e.region1 ∙ ap (λ (s : State). s.region1) begun;

@@ -1,25 +1,22 @@
 -- `alone::tick_voice` meets its contract on each of its three ways: refused by its lengths, refused for a record or for its voice's number,
 -- and served. Assumes nothing.
-use Rattle.std.proofs.Common.{Err, sym, ap, ◌∙◌}
-use Rattle.std.proofs.lemmas.Result.{err_from_is_err_and}
+use Rattle.std.proofs.Common.{sym}
 use Rattle.turns.proofs.Begun.{room, fitting}
-use Rattle.alone.proofs.Contract.{refused_call, late_call, a_voice, lent_too, formed, served_call}
+use Rattle.alone.proofs.Contract.{refused_call, late_call, lent_too, formed, served_call}
 use Rattle.alone.proofs.tick_voice.Goals as goal
 
 pub returns-in_err-accept_lent : goal.returns-in_err-accept_lent
 returns-in_err-accept_lent c =
     let a = c.args in
-    let p = err_from_is_err_and c.from_residual.result c.from_residual.ensures.1 in
     refused_call a.fixed a.voice a.region0.now a.region1.now a.window.now a.voices.now a.lanes.now a.mixes.now _
-    c.in_err-accept_lent.ensures c.from_residual.result (p.1 ∙ ap Err p.2)
+    c.in_err-accept_lent.ensures c.from_residual.result c.from_residual.ensures.1
 
 pub returns-in_err-accept_alone : goal.returns-in_err-accept_alone
 returns-in_err-accept_alone c =
     let a = c.args in
     let r = c.from_residual-in_err-accept_alone in
-    let p = err_from_is_err_and r.result r.ensures.1 in
     late_call a.fixed a.voice a.region0.now a.region1.now a.window.now a.voices.now a.lanes.now a.mixes.now _
-    (sym c.in_ok-accept_lent.ensures) c.in_err-accept_alone.ensures r.result (p.1 ∙ ap Err p.2)
+    (sym c.in_ok-accept_lent.ensures) c.in_err-accept_alone.ensures r.result r.ensures.1
 
 pub unwrap-mixes-requires : goal.unwrap-mixes-requires
 unwrap-mixes-requires c =
@@ -33,7 +30,6 @@ serve_alone-requires c =
     let code = sym c.in_ok-accept_lent.ensures in
     let late = sym c.in_ok-accept_alone.ensures in record {
       lent = lent_too a.fixed a.voice a.region0.now a.region1.now a.window.now a.voices.now a.lanes.now a.mixes.now code late;
-      a_voice = a_voice a.fixed a.voice a.region0.now a.region1.now a.window.now a.voices.now a.lanes.now a.mixes.now code late;
       well_formed = formed a.fixed a.voice a.region0.now a.region1.now a.window.now a.voices.now a.lanes.now a.mixes.now code late;
       fitting = fitting a.fixed a.region0.now a.region1.now a.window.now a.voices.now a.lanes.now a.mixes.now code;
     }

@@ -1,6 +1,5 @@
 -- `voices::tick` meets its contract on each of its three ways: refused by its lengths, refused for a record, and served. Assumes nothing.
-use Rattle.std.proofs.Common.{Err, sym, ap, ◌∙◌}
-use Rattle.std.proofs.lemmas.Result.{err_from_is_err_and}
+use Rattle.std.proofs.Common.{sym}
 use Rattle.turns.proofs.Begun.{room, all_voices_lem, fitting}
 use Rattle.voices.proofs.Contract.{refused_call, malformed_call, goes_on, served_call}
 use Rattle.voices.proofs.tick.Goals as goal
@@ -8,17 +7,15 @@ use Rattle.voices.proofs.tick.Goals as goal
 pub returns-in_err-accept_lent : goal.returns-in_err-accept_lent
 returns-in_err-accept_lent c =
     let a = c.args in
-    let p = err_from_is_err_and c.from_residual.result c.from_residual.ensures.1 in
     refused_call a.fixed a.region0.now a.region1.now a.window.now a.voices.now a.lanes.now a.mixes.now _
-    c.in_err-accept_lent.ensures c.from_residual.result (p.1 ∙ ap Err p.2)
+    c.in_err-accept_lent.ensures c.from_residual.result c.from_residual.ensures.1
 
 pub returns-in_err-accept_records : goal.returns-in_err-accept_records
 returns-in_err-accept_records c =
     let a = c.args in
     let r = c.from_residual-in_err-accept_records in
-    let p = err_from_is_err_and r.result r.ensures.1 in
     malformed_call a.fixed a.region0.now a.region1.now a.window.now a.voices.now a.lanes.now a.mixes.now _
-    (sym c.in_ok-accept_lent.ensures) c.in_err-accept_records.ensures r.result (p.1 ∙ ap Err p.2)
+    (sym c.in_ok-accept_lent.ensures) c.in_err-accept_records.ensures r.result r.ensures.1
 
 pub unwrap-mixes-requires : goal.unwrap-mixes-requires
 unwrap-mixes-requires c =

@@ -13,7 +13,7 @@ use borrow.Author.Tests.{eq-eqb, ne_eqb, lt-ltb, le-ltb}
 use Rattle.calls.proofs.refusal.accept_lengths.Goals as goal
 use Rattle.calls.proofs.refusal.accept_lengths.Goals.{then-lent-ne-VOICES-via-then-lent-ne-VOICES}
 use Rattle.calls.proofs.refusal.accept_lengths.Goals.{then-lent-ne-VOICES-via-else-lent-ne-VOICES+then-lent-lane}
-use Rattle.calls.proofs.refusal.accept_lengths.Goals.{then-lent-ne-VOICES-via-else-lent-ne-VOICES+else-lent-lane+then-lane-gt-MOST}
+use Rattle.calls.proofs.refusal.accept_lengths.Goals.{then-lent-ne-VOICES-via-else-lent-ne-VOICES+else-lent-lane+then-lane-gt-MOST_SAMPLES}
 
 pub returns-in_err-accept : goal.returns-in_err-accept
 returns-in_err-accept c =
@@ -43,9 +43,9 @@ returns-then-lent-ne-VOICES c =
       | then-lent-ne-VOICES-via-then-lent-ne-VOICES w ↦ wrong_records l.records l.lanes w.if-lent-ne-VOICES.true
       | then-lent-ne-VOICES-via-else-lent-ne-VOICES+then-lent-lane w ↦
           wrong_lanes l.records l.lanes w.if-lent-ne-VOICES.false (not_no (ne_eqb _ _ w.if-lent-lane.true))
-      | then-lent-ne-VOICES-via-else-lent-ne-VOICES+else-lent-lane+then-lane-gt-MOST w ↦
+      | then-lent-ne-VOICES-via-else-lent-ne-VOICES+else-lent-lane+then-lane-gt-MOST_SAMPLES w ↦
           by_length l.records l.lanes w.if-lent-ne-VOICES.false (not_yes (eq-eqb _ _ w.if-lent-lane.false))
-          ∙ lt-ltb _ _ w.if-lane-gt-MOST.true
+          ∙ lt-ltb _ _ w.if-lane-gt-MOST_SAMPLES.true
     ] in
     sym
     (by_voices a.fixed (lengths_of l.records l.region0 l.region1 l.window l.lanes) l.mixes (sym c.in_ok-accept.ensures)
@@ -58,7 +58,7 @@ returns-then-lent-ne-MIXES c =
     let l = a.lent in
     let right : wrong_voices l.records l.lanes ≡ false =
     by_length l.records l.lanes c.if-lent-ne-VOICES.false (not_yes (eq-eqb _ _ c.if-lent-lane.false))
-    ∙ le-ltb _ _ c.if-lane-gt-MOST.false in
+    ∙ le-ltb _ _ c.if-lane-gt-MOST_SAMPLES.false in
     sym
     (by_mixes a.fixed (lengths_of l.records l.region0 l.region1 l.window l.lanes) l.mixes (sym c.in_ok-accept.ensures)
     (sym c.in_ok-accept-2.ensures) right (λ z. omega (arith, z, c.if-lent-ne-MIXES.true)))
@@ -70,7 +70,7 @@ returns c =
     let l = a.lent in
     let right : wrong_voices l.records l.lanes ≡ false =
     by_length l.records l.lanes c.if-lent-ne-VOICES.false (not_yes (eq-eqb _ _ c.if-lent-lane.false))
-    ∙ le-ltb _ _ c.if-lane-gt-MOST.false in
+    ∙ le-ltb _ _ c.if-lane-gt-MOST_SAMPLES.false in
     sym
     (none a.fixed (lengths_of l.records l.region0 l.region1 l.window l.lanes) l.mixes (sym c.in_ok-accept.ensures)
     (sym c.in_ok-accept-2.ensures) right (omega (arith, c.if-lent-ne-MIXES.false)))

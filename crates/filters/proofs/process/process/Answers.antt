@@ -7,7 +7,7 @@ use Rattle.filters.proofs.process.process.Goals.{then-filters, else-filters}
 
 pub returns-then-filters-2 : goal.returns-then-filters-2
 returns-then-filters-2 c =
-    let f = c.args.filters in
+    let f = c.args.filters.now in
     let s = c.args.samples.now in
     let mid = c.if-filters.samples in
     let g = c.if-filters.filters in
@@ -20,7 +20,7 @@ returns-then-filters-2 c =
 
 pub returns-else-filters-2 : goal.returns-else-filters-2
 returns-else-filters-2 c =
-    let f = c.args.filters in
+    let f = c.args.filters.now in
     let s = c.args.samples.now in
     let mid = c.if-filters.samples in
     let g = c.if-filters.filters in

@@ -18,8 +18,8 @@ returns-then-not-v c =
       lane = sym (cond_no _ _ off);
     }
 
-pub pass-v-requires : goal.pass-v-requires
-pass-v-requires c =
+pub pass-requires : goal.pass-requires
+pass-requires c =
     let a = c.args in
     let e = c.play_frame-played.ensures in record {
       filters_in_range = subst (λ (v : Voice). T (filters_in_range v.filters)) (sym e.«record»)
@@ -34,8 +34,8 @@ returns-then-v c =
     let on = c.if-not-v.false in
     let w = c.play_frame-played.result.voice in
     let n = c.play_frame-played.result.produced in
-    let passed : set_voice_frame c.pass-v.new.frame (set_voice_filters c.pass-v.result w) ≡ filtered n w =
-    λ i. set_voice_frame (c.pass-v.ensures.frame i) (set_voice_filters (c.pass-v.ensures.filters i) w) in record {
+    let passed : set_voice_frame c.pass.new.frame (set_voice_filters c.pass.new.filters w) ≡ filtered n w =
+    λ i. set_voice_frame (c.pass.ensures.frame i) (set_voice_filters (c.pass.ensures.filters i) w) in record {
       «record» = passed ∙ (λ i. filtered (e.produced i) (e.«record» i)) ∙ sym (cond_yes _ _ on);
       lane = e.lane ∙ sym (cond_yes _ _ on);
     }

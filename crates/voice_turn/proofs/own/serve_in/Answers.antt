@@ -63,8 +63,8 @@ returns c =
     let bytes = take (l.configurations + 192 * a.i + 192 - (l.configurations + 192 * a.i)) (drop (l.configurations + 192 * a.i) read) in
     let report = take (l.statuses + 12 * a.i + 12 - (l.statuses + 12 * a.i)) (drop (l.statuses + 12 * a.i) other) in
     -- what comes back of it, by what voice i is answered
-    let same = answer_is a.fixed a.i a.v read other a.window.now lanes c.coefficients_at-coefficients.result
-    c.coefficients_at-coefficients.ensures in
+    let same = answer_is a.fixed a.i a.v read other a.window.now lanes c.part_at.result.now
+    c.part_at.ensures in
     let lane_is = e.lane ∙ ap (λ (x : Answer). lane_after x lane) same in
     let bytes_is = e.configuration ∙ ap (λ (x : Answer). configuration_after x bytes) same in
     let report_is = e.status ∙ ap (λ (x : Answer). status_after x report) same in

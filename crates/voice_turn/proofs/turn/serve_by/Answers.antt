@@ -9,13 +9,13 @@ pub serve_in-requires-clause-room : goal.serve_in-requires-clause-room
 serve_in-requires-clause-room c =
     let a = c.args in
     let room = room0 a.fixed (length a.region0.now) (length a.region1.now) (length a.window.now) in
-    room (length a.lanes.now) 1920 c.requires.fitting a.i c.requires.a_voice
+    room (length a.lanes.now) 1920 c.requires.fitting a.i.number a.i.is_voice
 
 pub serve_in-requires-in-One-clause-room : goal.serve_in-requires-in-One-clause-room
 serve_in-requires-in-One-clause-room c =
     let a = c.args in
     let room = room1 a.fixed (length a.region0.now) (length a.region1.now) (length a.window.now) in
-    room (length a.lanes.now) 1920 c.requires.fitting a.i c.requires.a_voice
+    room (length a.lanes.now) 1920 c.requires.fitting a.i.number a.i.is_voice
 
 pub returns-in-Zero : goal.returns-in-Zero
 unfolding record_by region0_by region1_by lanes_by mixes_by
