@@ -11,6 +11,7 @@ use mixer_state::{Mixer, Output};
 use numbers::casts::{cast_clamped, single_of_i32};
 use numbers::ranged::ranged;
 use numbers::sizes::{FRAME, FRAME_SAMPLES, MIX};
+use numbers::whole::clamped;
 
 // Where channels 1, 2 and 3 of a mix begin.
 const CHANNEL_1: usize = FRAME_SAMPLES;
@@ -51,11 +52,13 @@ pub fn stereo_part(volume: f32, a: i32, c: i32) -> i16
     part_of(at_volume(volume, a) + at_volume(volume, c))
 }
 
-// A value so far, and the next mix's part.
+// A value so far, and the next mix's part. By a sum of 32 bits, of which the compiler makes one instruction, and no `saturating_add`, of
+// which it makes nine.
+#[tactic(auto, unfolding(crate::specs::Downmix::added))]
 pub fn added(out: i16, part: i16) -> i16
     ensures { result ≡ added out part }
 {
-    out.saturating_add(part)
+    clamped(i32::from(out) + i32::from(part))
 }
 
 // What a mix adds to the two sides of a sample. (A `Sample` of the crate `samples` is an entry's, and needs all that reads one.)
