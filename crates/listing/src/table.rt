@@ -5,7 +5,7 @@ ghost use Rattle.listing.specs.Inner.{Put};
 ghost use Rattle.listing.specs.Listing.{rows, tables, only_nine};
 
 use crate::sizes::{LINE, OUTPUT_ROOM, WIDTH};
-use crate::text::{column, line, number};
+use crate::text::{column, line, number, signed};
 use adpcm::History;
 use refusals::Refusal;
 
@@ -16,7 +16,7 @@ fn put_rows(samples: &[i16], output: &mut [u8; OUTPUT_ROOM])
     ensures { Put output.old line_bytes (rows 0 samples.now) output.new ((length samples.now + 1) * line_bytes) }
 {
     for (i, y) in samples.iter().enumerate() {
-        let row = line(&number(i), &number(*y));
+        let row = line(&number(i as u64), &signed(*y));
         little::put(output, (i + 1) * LINE, &row);
     }
 }
@@ -33,8 +33,8 @@ pub fn put_tables(samples: &[i16], h: History, output: &mut [u8; OUTPUT_ROOM]) -
     let at = (samples.len() + 1) * LINE;
     let headings = line(&column(b"yn1"), &column(b"yn2"));
     little::put(output, at, &headings);
-    let newer = number(h.yn1);
-    let older = number(h.yn2);
+    let newer = signed(h.yn1);
+    let older = signed(h.yn2);
     little::put(output, at + LINE, &line(&newer, &older));
     at + 2 * LINE
 }
@@ -43,7 +43,7 @@ pub fn put_tables(samples: &[i16], h: History, output: &mut [u8; OUTPUT_ROOM]) -
 pub fn put_nine(output: &mut [u8; OUTPUT_ROOM]) -> usize
     ensures { Put output.old 0 only_nine output.new result }
 {
-    little::put(output, 0, &number(Refusal::Decode.number()));
+    little::put(output, 0, &number(u64::from(Refusal::Decode.number())));
     little::put(output, WIDTH, b"\n");
     WIDTH + 1
 }

@@ -1,11 +1,12 @@
 // Columns and lines of text. `Display` and `write!` are not used here: of a write that fails nothing is known, and that a write into room
 // enough succeeds stands in no contract of theirs.
 ghost use Rattle.std.specs.Prelude.{◌≡◌, ◌≤◌, ◌++◌, length};
+ghost use Rattle.std.specs.Fmt.{decimal, signed_decimal};
 ghost use Rattle.listing.specs.Text.{column, newline};
 ghost use Rattle.listing.specs.Sizes.{width};
 
 use crate::sizes::{LINE, WIDTH};
-use itoa::{Buffer, Integer};
+use itoa::write_digits;
 
 // A text right-justified in a column.
 pub fn column(text: &[u8]) -> [u8; WIDTH]
@@ -17,13 +18,26 @@ pub fn column(text: &[u8]) -> [u8; WIDTH]
     column
 }
 
-// A number in decimal, in a column that it fits.
-pub fn number<I: Integer>(n: I) -> [u8; WIDTH]
-    requires { length (I.text n) ≤ width }
-    ensures { result ≡ column width (I.text n) }
+// A number in decimal, in a column that it fits. Its digits are written where they stand, at the column's end.
+pub fn number(n: u64) -> [u8; WIDTH]
+    requires { length (decimal n) ≤ width }
+    ensures { result ≡ column width (decimal n) }
 {
-    let mut digits = Buffer::new();
-    column(digits.format(n).as_bytes())
+    let mut column = [b' '; WIDTH];
+    write_digits(n, &mut column, WIDTH);
+    column
+}
+
+// A sample in decimal, in a column, which every sample fits: its digits, and the sign before them.
+pub fn signed(n: i16) -> [u8; WIDTH]
+    ensures { result ≡ column width (signed_decimal n) }
+{
+    let mut column = [b' '; WIDTH];
+    let first = write_digits(u64::from(n.unsigned_abs()), &mut column, WIDTH);
+    if n < 0 {
+        column[first - 1] = b'-';
+    }
+    column
 }
 
 // A line of two columns.

@@ -7,14 +7,14 @@ use Rattle.listing.proofs.Puts.{put_more, put_text}
 use Rattle.listing.proofs.table.put_nine.Goals as goal
 
 pub number-requires-2 : goal.number-requires-2
-number-requires-2 c = index_narrow c.number.result (omega (arith, c.number.ensures))
+number-requires-2 c = index_narrow c.from.result (omega (arith, c.from.ensures, c.number.ensures))
 
 pub returns : goal.returns
 returns c =
-    let nine : c.number.result ≡ 9 = c.number.ensures in
+    let nine : c.from.result ≡ 9 = c.from.ensures ∙ c.number.ensures in
     let long : length c.number-2.result ≡ width = search rules in
     put_more
     (put_text
-    (c.number-2.ensures ∙ ap (column width) (same_decimal c.number.result (omega (arith, nine)) ∙ ap decimal nine))
+    (c.number-2.ensures ∙ ap (column width) (same_decimal c.from.result (omega (arith, nine)) ∙ ap decimal nine))
     c.put.ensures (omega (arith, long)))
     (put_text refl c.put-2.ensures (omega arith))

@@ -15,7 +15,7 @@ use Rattle.listing.specs.Text.{column, decimal, signed_decimal}
 use Rattle.listing.specs.Sizes.{width, line_bytes}
 use Rattle.listing.specs.Inner.{Put}
 use Rattle.listing.specs.Listing.{row, rows}
-use Rattle.listing.proofs.Decimals.{same_decimal, index_narrow, sample_narrow, shown}
+use Rattle.listing.proofs.Decimals.{same_decimal, index_narrow, shown}
 use Rattle.listing.proofs.Puts.{put_more, put_text, put_row}
 use Rattle.listing.proofs.table.put_rows.Invariants.{Lining}
 use Rattle.listing.proofs.table.put_rows.Goals as goal
@@ -51,9 +51,6 @@ module _ (samples : List ℤ) (old : List ℕ) where
 pub number-requires : goal.number-requires
 number-requires c = index_narrow c.loop-i.i (omega (arith, c.loop-i-test.true, c.requires))
 
-pub number-requires-in-loop-i : goal.number-requires-in-loop-i
-number-requires-in-loop-i c = search (rules, sample_narrow)
-
 pub loop-i-preserved : goal.loop-i-preserved
 loop-i-preserved c =
     let a = c.args in
@@ -61,7 +58,7 @@ loop-i-preserved c =
     let z : SFits w16 (get_or a.samples.now i (pos 0)) = search rules in
     let long : length c.line-row.result ≡ line_bytes = search rules in
     let index = c.number.ensures ∙ ap (column width) (same_decimal i (omega arith)) in
-    let line = put_row c.line-row.ensures index (c.number-in-loop-i.ensures ∙ shown z) in
+    let line = put_row c.line-row.ensures index (c.signed.ensures ∙ shown z) in
     turn a.samples.now a.output.now c.loop-i.output i c.loop-i.invariant c.loop-i-test.true line long c.put.ensures
 
 pub returns : goal.returns

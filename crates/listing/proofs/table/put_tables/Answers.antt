@@ -3,15 +3,9 @@ use Rattle.std.proofs.Common.{◌≡◌, ◌∙◌, ◌+◌, ◌*◌, length, ar
 use mir.Syntax.{w16}
 use mir.Val.{SFits}
 use Rattle.listing.specs.Sizes.{line_bytes}
-use Rattle.listing.proofs.Decimals.{shown, sample_narrow}
+use Rattle.listing.proofs.Decimals.{shown}
 use Rattle.listing.proofs.Puts.{put_more, put_text, put_row}
 use Rattle.listing.proofs.table.put_tables.Goals as goal
-
-pub number-newer-requires : goal.number-newer-requires
-number-newer-requires c = sample_narrow {z = c.args.h.yn1} (search rules)
-
-pub number-older-requires : goal.number-older-requires
-number-older-requires c = sample_narrow {z = c.args.h.yn2} (search rules)
 
 pub returns-clause-tables : goal.returns-clause-tables
 returns-clause-tables c =
@@ -26,6 +20,6 @@ returns-clause-tables c =
     let headings = put_text {e = at + line_bytes} (put_row c.line-headings-2.ensures c.column-3.ensures c.column-4.ensures)
     c.put-2.ensures (omega (arith, second)) in
     let history =
-    put_text {e = at + 2 * line_bytes} (put_row c.line.ensures (c.number-newer.ensures ∙ shown yn1) (c.number-older.ensures ∙ shown yn2))
+    put_text {e = at + 2 * line_bytes} (put_row c.line.ensures (c.signed-newer.ensures ∙ shown yn1) (c.signed-older.ensures ∙ shown yn2))
     c.put-3.ensures (omega (arith, third)) in
     put_more (put_more samples c.put_rows.ensures) (put_more headings history)
