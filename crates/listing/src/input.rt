@@ -1,8 +1,8 @@
-// The input's header.
-ghost use Rattle.std.specs.Prelude.{◌≡◌, ◌<◌};
+// The input's header, read of bytes that begin with it: what follows it changes nothing.
+ghost use Rattle.std.specs.Prelude.{◌≡◌, ◌≤◌, ◌<◌, length};
+ghost use Rattle.listing.specs.Sizes.{header};
 ghost use Rattle.listing.specs.Listing.{coefficients_in, history_in, count_in};
 
-use crate::sizes::HEADER;
 use adpcm::History;
 use little::{read16, signed_halves};
 use numbers::sizes::COEFFICIENTS;
@@ -14,24 +14,27 @@ const COUNT: usize = HISTORY + 2 * 2;
 
 // The 16 coefficients.
 #[tactic(auto, unfolding(crate::specs::Listing::coefficients_in))]
-pub fn coefficients(header: &[u8; HEADER]) -> [i16; COEFFICIENTS]
-    ensures { result ≡ coefficients_in header.now }
+pub fn coefficients(bytes: &[u8]) -> [i16; COEFFICIENTS]
+    requires { header ≤ length bytes.now }
+    ensures { result ≡ coefficients_in bytes.now }
 {
-    signed_halves(header)
+    signed_halves(bytes)
 }
 
 // The history to go on from.
-pub fn history(header: &[u8; HEADER]) -> History
-    ensures { result ≡ history_in header.now }
+pub fn history(bytes: &[u8]) -> History
+    requires { header ≤ length bytes.now }
+    ensures { result ≡ history_in bytes.now }
 {
-    let [yn1, yn2] = signed_halves::<2>(&header[HISTORY..]);
+    let [yn1, yn2] = signed_halves::<2>(&bytes[HISTORY..]);
     History { yn1, yn2 }
 }
 
 // How many samples the frames hold.
-pub fn count(header: &[u8; HEADER]) -> usize
-    ensures value { result ≡ count_in header.now }
+pub fn count(bytes: &[u8]) -> usize
+    requires { header ≤ length bytes.now }
+    ensures value { result ≡ count_in bytes.now }
     ensures upper_bound { result < 65536 }
 {
-    usize::from(read16(header, COUNT))
+    usize::from(read16(bytes, COUNT))
 }
