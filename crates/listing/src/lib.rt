@@ -32,18 +32,15 @@ fn decode(header: &[u8; HEADER], frames: &[u8], samples: &mut [i16]) -> Result<H
     Ok(history)
 }
 
-// Decodes as many samples as there are places for, and puts both tables, or 9 where the decode is refused.
-fn put_decoded(
-    header: &[u8; HEADER],
-    frames: &[u8],
-    samples: &mut [i16],
-    output: &mut [u8; OUTPUT_ROOM],
-) -> usize
-    requires counted { length samples.old ≡ count_in header.now }
-    requires few { length samples.old ≤ most_samples }
+// Decodes the frames behind a header and puts both tables, or 9 where the decode is refused. The places for the samples are made here, so
+// that an input whose length alone refuses it costs none.
+fn put_decoded(header: &[u8; HEADER], frames: &[u8], output: &mut [u8; OUTPUT_ROOM]) -> usize
     ensures put { Put output.old 0 (listed (header.now ++ frames.now)) output.new result }
     ensures next { result ≤ output_room }
 {
+    let count = input::count(header);
+    let mut places = [0i16; MOST_SAMPLES];
+    let samples = &mut places[..count];
     match decode(header, frames, samples) {
         Ok(last) => table::put_tables(samples, last, output),
         Err(_) => table::put_nine(output),
@@ -56,12 +53,14 @@ pub fn listing(input: &[u8], output: &mut [u8; OUTPUT_ROOM]) -> usize
     ensures output { output.new ≡ listed input.now ++ drop result output.old }
     ensures within { result ≤ length output.new }
 {
-    let Some((header, frames)) = input.split_first_chunk() else {
+    let Some((header, frames)) = input.split_first_chunk::<HEADER>() else {
         return table::put_nine(output);
     };
-    let count = input::count(header);
-    let mut samples = [0i16; MOST_SAMPLES];
-    put_decoded(header, frames, &mut samples[..count], output)
+    let whole = adpcm::bytes_of(input::count(header));
+    if frames.len() != whole {
+        return table::put_nine(output);
+    }
+    put_decoded(header, frames, output)
 }
 
 // Lists an input of which `got` bytes were read into a buffer, all of it or as many as the buffer holds. What was not read changes nothing.

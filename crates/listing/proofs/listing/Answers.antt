@@ -5,18 +5,16 @@ use mathlib.Core.List.{List, ◌++◌}
 use Prim.Native.Nat.{ℕ, ◌+◌, ◌≤◌, ◌<◌}
 use native.Mathlib.Omega.{arith}
 use lib.ListN
-use lib.IntN.{pos}
 use lib.ListN.{length, take, drop, replicate, length-append}
-use lib.Seq.{length-take-le}
 use Rattle.std.proofs.Common.{take-append-drop}
-use Rattle.std.proofs.lemmas.List.{length-replicate}
 use borrow.Author.Tests.{ne_eqb}
 use Rattle.lists.proofs.Bools.{cond_no}
 use Rattle.lists.proofs.Splice.{splice_is}
 use Rattle.listing.specs.Text.{decimal}
-use Rattle.listing.specs.Sizes.{header, frame_bytes, most_samples, output_room}
+use Rattle.listing.specs.Sizes.{header, frame_bytes, output_room}
 use Rattle.listing.specs.Inner.{Put}
 use Rattle.listing.specs.Listing.{count_in, complete, tables_of, only_nine, listed}
+use Rattle.listing.proofs.Header.{same_count}
 use borrow.Author.Rules.{rules}
 use Rattle.listing.proofs.listing.Goals as goal
 
@@ -44,18 +42,15 @@ put_listed input old new r p h k =
     begins : new ≡ listed input ++ drop r old
     begins = p.stored ∙ splice_is old 0 (listed input) (omega (arith, p.after)) ∙ (λ j. listed input ++ drop (sym p.after j) old)
 
--- an input that ends within its header
+-- an input that is not complete
 nine_listed :
-    (input old new : List ℕ) (r : ℕ) → length input < header → Put old 0 only_nine new r → length old ≡ output_room
-    → Listed input old new r
+    (input old new : List ℕ) (r : ℕ) → (length input ≡ header + frame_bytes (count_in input) → ⊥) → Put old 0 only_nine new r
+    → length old ≡ output_room → Listed input old new r
 unfolding decimal listed
-nine_listed input old new r h p k =
+nine_listed input old new r other p k =
     put_listed input old new r (subst (λ (text : List ℕ). Put old 0 text new r) (sym (cond_no (tables_of input) only_nine early)) p)
     (omega (arith, p.after)) k
   where
-    other : length input ≡ header + frame_bytes (count_in input) → ⊥
-    other e = omega arith
-
     early : complete input ≡ false
     early = ne_eqb (length input) (header + frame_bytes (count_in input)) other
 
@@ -63,25 +58,34 @@ pub returns-in_default : goal.returns-in_default
 returns-in_default c =
     let a = c.args in
     let room : length a.output.now ≡ output_room = search rules in
-    nine_listed a.input.now a.output.now c.put_nine.new.output c.put_nine.result (rw c.in_default.is at c.split_first_chunk.ensures.cases)
+    let short : length a.input.now < header = rw c.in_default.is at c.split_first_chunk.ensures.cases in
+    nine_listed a.input.now a.output.now c.put_nine.new.output c.put_nine.result (λ e. omega arith)
     c.put_nine.ensures room
 
--- as many places for samples as the count says
-places : (count : ℕ) → count < 65536 → length (take count (replicate most_samples (pos 0))) ≡ count
-places count h = length-take-le count (replicate most_samples (pos 0)) (omega (arith, length-replicate most_samples (pos 0)))
+-- a header and what follows it
+module _ (input first frames : List ℕ) (h : first ≡ take header input) (k : frames ≡ drop header input) where
+  whole : first ++ frames ≡ input
+  whole = (λ j. h j ++ k j) ∙ take-append-drop header input
 
-pub slice_bounds-put_decoded-end : goal.slice_bounds-put_decoded-end
-slice_bounds-put_decoded-end c = sym (places c.count-count.result c.count-count.ensures.upper_bound)
+  -- frames of another length than the count's
+  other : length first ≡ header → (length frames ≡ frame_bytes (count_in first) → ⊥)
+      → length input ≡ header + frame_bytes (count_in input) → ⊥
+  other l differ e = differ (omega (arith, e, ap length (sym whole), length-append first frames, l, ap frame_bytes same))
+    where
+      same : count_in first ≡ count_in input
+      same = same_count first frames l ∙ ap count_in whole
 
-pub put_decoded-requires-clause-counted : goal.put_decoded-requires-clause-counted
-put_decoded-requires-clause-counted c =
-    let n = c.count-count in
-    places n.result n.ensures.upper_bound ∙ n.ensures.value
-
-pub put_decoded-requires-clause-few : goal.put_decoded-requires-clause-few
-put_decoded-requires-clause-few c =
-    let n = c.count-count in
-    omega (arith, places n.result n.ensures.upper_bound, n.ensures.upper_bound)
+pub returns-then-frames-whole : goal.returns-then-frames-whole
+returns-then-frames-whole c =
+    let a = c.args in
+    let parts = c.in-Some.ensures.cases in
+    let room : length a.output.now ≡ output_room = search rules in
+    let long : length c.in-Some.header.now ≡ header = search rules in
+    let n = c.put_nine-then-frames-whole in
+    nine_listed a.input.now a.output.now n.new.output n.result
+    (other a.input.now c.in-Some.header.now c.in-Some.frames.now parts.0 parts.1 long
+    (λ e. omega (arith, e, c.if-frames-whole.true, c.bytes_of-whole.ensures, ap frame_bytes c.count.ensures.value)))
+    n.ensures room
 
 pub returns : goal.returns
 returns c =
@@ -90,8 +94,7 @@ returns c =
     let input = a.input.now in
     let room : length a.output.now ≡ output_room = search rules in
     let parts = c.in-Some.ensures.cases in
-    let whole : c.in-Some.header.now ++ c.in-Some.frames.now ≡ input =
-    (λ j. parts.0 j ++ parts.1 j) ∙ take-append-drop header input in
     put_listed input a.output.now d.new.output d.result
-    (subst (λ (i : List ℕ). Put a.output.now 0 (listed i) d.new.output d.result) whole d.ensures.put)
+    (subst (λ (i : List ℕ). Put a.output.now 0 (listed i) d.new.output d.result)
+    (whole input c.in-Some.header.now c.in-Some.frames.now parts.0 parts.1) d.ensures.put)
     d.ensures.next room
