@@ -171,7 +171,8 @@ fn decode_frame(
 }
 
 // Decodes as many samples as `samples` holds from the bytes of their frames. Each frame's part of them goes by index, since of `chunks_mut`
-// no proof knows what the slice ends as.
+// no proof knows what the slice ends as. The history is kept in a local meanwhile: what is lent would be stored and read at each sample.
+// (With the least of 14 and how many are left, in place of where a part ends, the compiler clamps by jumps: loud samples take twice as long.)
 fn decode_all(
     data: &[u8],
     coefficients: &[i16; COEFFICIENTS],
@@ -184,12 +185,14 @@ fn decode_all(
     ensures history { history.new ≡
         decoded_history sample_of coefficients.now history.old «data».now (length samples.old) }
 {
+    let mut last = *history;
     let (frames, _) = data.as_chunks::<FRAME_BYTES>();
     for (i, frame) in frames.iter().enumerate() {
         let start = i * FRAME_SAMPLES;
         let end = (start + FRAME_SAMPLES).min(samples.len());
-        decode_frame(frame, coefficients, history, &mut samples[start..end]);
+        decode_frame(frame, coefficients, &mut last, &mut samples[start..end]);
     }
+    *history = last;
 }
 
 // Decodes `count` samples into the first places of `samples`, or refuses.

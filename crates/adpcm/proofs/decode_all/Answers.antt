@@ -18,7 +18,7 @@ loop-i-preserved c =
     let part : c.min-end.result - i * 14 ≡ min 14 (length old - i * 14) = omega arith in
     let long : length (take (c.min-end.result - i * 14) (drop (i * 14) l.samples)) ≡ min 14 (length old - i * 14) =
     simp (length-take, length-drop) (omega (arith, part, l.auto.samples)) in
-    turn_called c.args.coefficients.now c.args.history.now bytes (length old) old l.samples l.history i l.invariant there
+    turn_called c.args.coefficients.now c.args.history.now bytes (length old) old l.samples l.last i l.invariant there
     (get_or frames i [])
     (ap (λ (fs : List (List ℕ)). get_or fs i []) c.as_chunks.ensures.front ∙ chunk_at 8 _ i bytes [] (omega arith)) _ _ long part
     c.decode_frame.new.samples c.decode_frame.ensures.samples c.decode_frame.new.history c.decode_frame.ensures.history

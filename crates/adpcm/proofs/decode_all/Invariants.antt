@@ -6,4 +6,4 @@ use Rattle.adpcm.proofs.decode_all.Given as goal
 abbrev pub invariant-loop-i : goal.invariant-loop-i
 invariant-loop-i l =
     let old = l.initial.samples in
-    Done l.coefficients l.initial.history l.data (length old) old l.samples l.history l.i
+    Done l.coefficients l.initial.history l.data (length old) old l.samples l.last l.i
