@@ -1,7 +1,8 @@
 -- What the filters keep to: what comes out of them has 16 bits, and their state stays in range. Assumes nothing.
 use mathlib.Core.Bool.{Bool, true, false, ◌&&◌, cond}
 use mathlib.Core.List.{List, [], ◌∷◌}
-use Prim.Native.Nat.{ℕ, suc, ◌+◌, ◌-◌, zero-le, suc-le-suc}
+use Prim.Native.Nat.{ℕ, zero, suc, ◌+◌, ◌-◌, zero-le, suc-le-suc}
+use native.Mathlib.Nat.{le_of_suc-le-suc, not-suc-le-zero}
 use lib.Dec.{T}
 use lib.IntN.{ℤ, pos}
 use lib.ListN.{get_or, set}
@@ -18,7 +19,7 @@ use Rattle.filters.specs.Passed.{Passed}
 use Rattle.filters.specs.Range.{in_range, all_in_range, simple_in_range, biquad_in_range, filters_in_range}
 use Rattle.filters.specs.Filter.{simple_sum, simple_value, simple_after, biquad_sum, biquad_value, moved, biquad_after}
 use Rattle.filters.specs.Inner.{simple_next, biquad_next}
-use Rattle.filters.specs.Process.{pass_simple, pass_biquad, pass, filters_after}
+use Rattle.filters.specs.Process.{pass_simple, pass_biquad, pass, passed_from, filters_after}
 use Rattle.filters.specs.Identity.{AllFit}
 use Rattle.filters.proofs.Ranges.{both, sample_range, all_at, all_set}
 
@@ -162,6 +163,14 @@ first_fits x samples fit = fit 0 (suc-le-suc zero-le)
 
 pub rest_fit : (x : ℤ) (samples : List ℤ) → AllFit (x ∷ samples) → AllFit samples
 rest_fit x samples fit i h = fit (suc i) (suc-le-suc h)
+
+pub passed_fit :
+    (channel : ℕ) (f : Filters) (samples : List ℤ) → T (filters_in_range f) → AllFit samples → AllFit (passed_from channel f samples)
+passed_fit channel f [] t fit i h = absurd (not-suc-le-zero h)
+passed_fit channel f (x ∷ samples) t fit zero h = (pass_keeps channel f x (first_fits x samples fit) t).value
+passed_fit channel f (x ∷ samples) t fit (suc i) h =
+    passed_fit (1 - channel) (pass channel f x).filters samples (pass_keeps channel f x (first_fits x samples fit) t).filters
+    (rest_fit x samples fit) i (le_of_suc-le-suc h)
 
 pub after_in_range :
     (channel : ℕ) (f : Filters) (samples : List ℤ) → T (filters_in_range f) → AllFit samples

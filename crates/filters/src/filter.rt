@@ -6,6 +6,7 @@ ghost use Rattle.filters.specs.Filter.{simple_sum, simple_value, biquad_sum, biq
 ghost use Rattle.filters.specs.Inner.{simple_next, biquad_next};
 
 use crate::state::{BiquadFilter, SimpleFilter};
+use crate::step::{biquad_after, simple_after};
 use numbers::whole::{clamped, wrapped};
 
 pub trait Filter: Copy {
@@ -77,7 +78,7 @@ impl Filter for SimpleFilter {
 
     fn pass(&mut self, channel: usize, sample: &mut i16) {
         let value = clamped(wrapped(self.sum(channel, *sample)) >> 15);
-        self.y1[channel] = i32::from(value);
+        *self = simple_after(*self, channel, value);
         *sample = value;
     }
 }
@@ -114,11 +115,7 @@ impl Filter for BiquadFilter {
     fn pass(&mut self, channel: usize, sample: &mut i16) {
         let x = *sample;
         let value = clamped(wrapped(self.sum(channel, x)) >> 14);
-        let older = channel + 2;
-        self.x[older] = self.x[channel];
-        self.x[channel] = i32::from(x);
-        self.y[older] = self.y[channel];
-        self.y[channel] = i32::from(value);
+        *self = biquad_after(*self, channel, x, value);
         *sample = value;
     }
 }

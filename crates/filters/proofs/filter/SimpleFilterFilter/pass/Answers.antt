@@ -29,9 +29,7 @@ returns c =
     ∙ ap clamp16 (shr_read w32 c.wrapped.result 32768 c.wrapped.type_inv
     ∙ ap (λ (z : ℤ). shr_z z 32768) (c.wrapped.ensures
     ∙ ap wrap32 ((is_read w64 c.sum.ensures tt).is ∙ ap (simple_sum k f) (to_z-of_z fits)))) in
-    let kept : to_z w32 (of_z w32 c.from.result) ≡ simple_value k f x =
-    result_read w32 c.from.result c.from.type_inv ∙ c.from.ensures ∙ value in
-    let filter = ap (simple_after k f) kept in
+    let filter = c.simple_after.ensures ∙ ap (simple_after k f) value in
     record {
       value = value;
       filter = filter;
