@@ -1,12 +1,13 @@
 -- What a voice's frame adds to the mixes, which are "1,920 signed 32-bit numbers (by mix, then channel, then sample)".
 -- Assumes nothing: these are definitions.
-use Rattle.std.specs.Prelude.{◌≡◌, Bool, false, cond, List, ℕ, ◌+◌, ◌*◌, ◌/◌, ◌%◌, ◌≤◌, ◌<◌, length, Float, ℤ, pos, ◌+ℤ◌, get_or}
+use Rattle.std.specs.Prelude.{◌≡◌, Bool, false, not, cond, ◌&&◌, List, ℕ, ◌+◌, ◌*◌, ◌/◌, ◌%◌, ◌≤◌, ◌<◌, length, Float, ℤ, pos, ◌+ℤ◌, get_or}
 use Rattle.std.specs.Float.{nan}
-use Rattle.std.specs.Float.Ieee.{ne}
+use Rattle.std.specs.Float.Ieee.{eq, ne}
 use Rattle.lists.specs.Tabulate.{tabulate}
 use Rattle.numbers.specs.Sizes.{FRAME_SAMPLES, MIX, MIXES}
 use Rattle.numbers.specs.Wrap.{wrap32}
 use Rattle.numbers.specs.Casts.{single}
+use Rattle.numbers.specs.Literals.{+0}
 use Rattle.mixing.specs.Gain.{at_gain, progress, fading}
 
 -- ---- value k of the mixes: its mix, which of the 12 gains is its own (there are four to a mix, one for each channel), and its sample
@@ -45,6 +46,14 @@ unfoldable pub ramped : List Bool → List Float → List Float → List ℤ →
 ramped marks from to frame mixes = tabulate (λ k. summed (get_or mixes k (pos 0)) (ramped_at marks from to frame k)) MIXES
 
 -- ---- on the way
+
+-- whether a channel adds nothing, by its mark and gains: its gain is 0.0, and it does not fade
+abbrev pub unheard : Bool → Float → Float → Bool
+unheard on from to = eq to +0 && not (on && ne from to)
+
+-- and by its number
+abbrev pub unheard_at : List Bool → List Float → List Float → ℕ → Bool
+unheard_at marks from to c = unheard (get_or marks (c / 4) false) (get_or from c nan) (get_or to c nan)
 
 -- the left samples of a frame, or the right ones, as floats
 unfoldable pub floats_of : List ℤ → ℕ → List Float
