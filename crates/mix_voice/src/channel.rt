@@ -12,7 +12,7 @@ use numbers::sizes::{FRAME, FRAME_SAMPLES, MIXES};
 use numbers::whole::add_wrapped;
 
 // The largest size of a gain of the quick way. (The source has the name, and another number: its cast goes further.)
-const QUICK_GAIN: f32 = 32.0;
+pub const QUICK_GAIN: f32 = 32.0;
 
 // The largest size of a gain to fade from or to the quick way: on the way it is at most three times that.
 const FADING_GAIN: f32 = 16.0;
