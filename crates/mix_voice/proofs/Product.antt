@@ -105,12 +105,16 @@ pub record Product (x : Float) : Type 0 where
   pub seen : Seen b (add binary32 (sub binary32 x (quarter b)) middle) fl
   pub is : cast_i32 x ≡ signed b fl
 
+like : (s : Bool) → s ≡ not s → ⊥
+like true e = true≢false e
+like false e = true≢false (sym e)
+
 product : (s : Bool) (n d : ℕ) → 0 < d → n ≤ 2097151 * d → Product (round binary32 s n d)
 product s n d d0 most =
     let x = round binary32 s n d in
     let g = G n d d0 most in
     let v = x_value n d d0 most s in
-    let k = seen s (sub binary32 x (quarter s)) g (less_quarter n d d0 most s) in
+    let k = seen s (sub binary32 x (quarter s)) g (less_quarter n d d0 most s s (λ e. absurd (like s e))) in
     record { b = s; fl = g / D; sign = sign_of x s g D v; number = not_nan x s g D v; seen = k; is = cast_of x s g v k.few }
 
 -- a gain times a sample

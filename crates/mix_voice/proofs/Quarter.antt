@@ -4,7 +4,7 @@ use mathlib.Core.Path.{◌≡◌, refl, sym, ap, ◌∙◌, subst}
 use mathlib.Core.Bool.{Bool, true, false, not, ◌&&◌, cond}
 use mathlib.Core.Logic.{⊎_elim, ◌⊎◌, inl, inr}
 use Prim.Native.Nat.{ℕ, ◌+◌, ◌-◌, ◌*◌, ◌/◌, ◌%◌, ◌^◌, ◌≤◌, ◌<◌, compare}
-use native.Mathlib.Nat.{le_trans, le_of_eq, lt_of_le_of_lt, mul_comm, mul-sub, mul-le-mul_right, div-eq_of_lt, div-div-eq-div-mul}
+use native.Mathlib.Nat.{le_trans, le_of_eq, lt_of_le_of_lt, zero-mul, mul_comm, mul-sub, mul-le-mul_right, div-eq_of_lt, div-div-eq-div-mul}
 use native.Mathlib.Nat.{sub-le}
 use native.Mathlib.Omega.{arith}
 use lib.IntN.{pos, negsuc}
@@ -103,6 +103,12 @@ module _ (n d : ℕ) (d0 : 0 < d) (most : n ≤ 2097151 * d) where
       le_trans (nearest-le (n * 2 ^ 149 / u) (compare (n * 2 ^ 149 % u * 2) u))
       (subst (λ (x : ℕ). x < 2 ^ 24) (div-div-eq-div-mul (n * 2 ^ 149) d (2 ^ j)) (kept-lt 24 (n * 2 ^ 149 / d)))
 
+  pub G-zero : n ≡ 0 → G ≡ 0
+  G-zero z = none G (cell_le binary32 n d 147 d0 small 0 (le_of_eq (ap (λ (x : ℕ). x * 2 ^ 149) z ∙ sym (zero-mul d))))
+    where
+      none : (G : ℕ) → G ≤ 0 → G ≡ 0
+      none G h = omega arith
+
   -- the quarter comes off exactly
   abbrev r : ℕ
   r = 2 ^ (147 - j)
@@ -124,21 +130,28 @@ module _ (n d : ℕ) (d0 : 0 < d) (most : n ≤ 2097151 * d) where
   from_exact : (b : Bool) → Q ≤ G → Less b (round binary32 b (G - Q) D) G
   from_exact b h = record { g = G; same = refl; few = G-le; at = inl (h, exact b) }
 
+  none_more : (G P : ℕ) → G ≡ 0 → (G + P ≤ P) × (G ≤ P)
+  none_more G P z = (omega arith, omega arith)
+
   le_of_lt' : (G P : ℕ) → G < P → G ≤ P
   le_of_lt' G P h = omega arith
 
   none_left : (G P : ℕ) → G ≤ P → G - P ≤ P
   none_left G P h = omega arith
 
-  less : (s : Bool) → Less s (sum binary32 s G (not s) Q D) G
+  less : (s b : Bool) → (s ≡ not b → G ≡ 0) → Less b (sum binary32 s G (not b) Q D) G
   unfolding sum
-  less false = go (ltb G Q) refl
+  less false false z = go (ltb G Q) refl
     where
       go : (t : Bool) → ltb G Q ≡ t → Less false (cond t (round binary32 true (Q - G) D) (round binary32 false (G - Q) D)) G
       go true e =
           from_small false (round binary32 true (Q - G) D) G (le_of_lt' G Q (ltb-true G Q e)) (small_round true (Q - G) (sub-le Q G))
       go false e = from_exact false (ltb-false G Q e)
-  less true = go (ltb G Q) (ltb Q G) refl refl
+  less true false z =
+      from_small false (round binary32 true (G + Q) D) G (none_more G Q (z refl)).1 (small_round true (G + Q) (none_more G Q (z refl)).0)
+  less false true z =
+      from_small true (round binary32 false (G + Q) D) G (none_more G Q (z refl)).1 (small_round false (G + Q) (none_more G Q (z refl)).0)
+  less true true z = go (ltb G Q) (ltb Q G) refl refl
     where
       go :
           (t u : Bool) → ltb G Q ≡ t → ltb Q G ≡ u
@@ -149,10 +162,10 @@ module _ (n d : ℕ) (d0 : 0 < d) (most : n ≤ 2097151 * d) where
       go false false e f =
           from_small true (round binary32 false (G - Q) D) G (ltb-false Q G f) (small_round false (G - Q) (none_left G Q (ltb-false Q G f)))
 
-  pub less_quarter : (s : Bool) → Less s (sub binary32 (round binary32 s n d) (quarter s)) G
-  less_quarter s =
-      subst (λ (y : Float). Less s y G)
-      (sym (sub_value binary32 (round binary32 s n d) (quarter s) s s G Q D (pow_pos 149) (x_value s) (refl, refl))) (less s)
+  pub less_quarter : (s b : Bool) → (s ≡ not b → G ≡ 0) → Less b (sub binary32 (round binary32 s n d) (quarter b)) G
+  less_quarter s b z =
+      subst (λ (y : Float). Less b y G)
+      (sym (sub_value binary32 (round binary32 s n d) (quarter b) s b G Q D (pow_pos 149) (x_value s) (refl, refl))) (less s b z)
 
 -- ---- with 2 ^ 22 + 2 ^ 21 put on it stands in halves, its bits are those of 2 ^ 22 and twice what was added
 abbrev pub Cutting : Bool → ℕ → ℕ → Type 0
