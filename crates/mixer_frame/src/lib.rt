@@ -5,10 +5,12 @@
 #![tactic(auto)]
 
 ghost use Rattle.std.specs.Prelude.{◌≡◌, cond, ◌+◌, ◌≤◌, ◌<◌, length};
-ghost use Rattle.lists.specs.Splice.{splice};
+ghost use Rattle.lists.specs.Splice.{part, splice};
 ghost use Rattle.mix_bytes.specs.Mixes.{words_in, word_bytes};
 ghost use Rattle.mix_bytes.specs.Sizes.{final_bytes, aux_bytes, intermediate_bytes};
-ghost use Rattle.mixer_frame.specs.Frame.{mix_of, frame_of, out_of};
+ghost use Rattle.downmix.specs.Downmix.{downmixed};
+ghost use Rattle.mixer_state.specs.State.{aux_on};
+ghost use Rattle.mixer_frame.specs.Frame.{mix_of, aux_at, frame_of, out_of};
 
 use downmix::downmix;
 use layout::Layout;
@@ -26,12 +28,27 @@ fn mix_of(k: usize, given: &[i32; MIXES]) -> &[i32; MIX]
     part_at(given, k * MIX)
 }
 
-// A mix as it reaches the output: what the title made of it where its aux bus is on, else as it is given. Whether it is on is a parameter
-// here and below, as in the definitions: with a branch for each bus the callers' proofs would go four ways.
-fn heard(on: bool, returned: &[u8; AUX_BYTES], given: &[i32; MIX]) -> [i32; MIX]
-    ensures { result ≡ cond on (words_in returned.now) given.now }
+// Adds the mix of an aux bus to the frame as it reaches the output: what the title made of it where the bus is on, else as it is given.
+fn add_heard(
+    frame: &mut [i16; FRAME],
+    l: Layout,
+    state: Mixer,
+    read: &[u8],
+    given: &[i32; MIXES],
+    bus: usize,
+)
+    requires bus_bound { bus < 2 }
+    requires in_region { l.intermediate_samples + intermediate_bytes ≤ length read.now }
+    ensures { frame.new ≡ downmixed state (bus + 1)
+        (cond (aux_on state bus) (words_in (part (aux_at l bus) aux_bytes read.now)) (mix_of (bus + 1) given.now)) frame.old }
 {
-    if on { read_mix(returned) } else { *given }
+    let mix = mix_of(bus + 1, given);
+    let returned = part_at(read, l.intermediate_samples as usize + bus * AUX_BYTES);
+    if state.aux[bus] {
+        downmix(frame, &read_mix(returned), state, bus + 1);
+    } else {
+        downmix(frame, mix, state, bus + 1);
+    }
 }
 
 // The frame that a state makes of the mixes given and those in the region that is read.
@@ -39,21 +56,15 @@ pub fn frame_of(l: Layout, state: Mixer, read: &[u8], given: &[i32; MIXES]) -> [
     requires { l.intermediate_samples + intermediate_bytes ≤ length read.now }
     ensures { result ≡ frame_of l state read.now given.now }
 {
-    let at = l.intermediate_samples as usize;
-    let first = heard(state.aux[0], part_at(read, at), mix_of(1, given));
-    let second = heard(
-        state.aux[1],
-        part_at(read, at + AUX_BYTES),
-        mix_of(2, given),
-    );
     let mut frame = [0i16; FRAME];
     downmix(&mut frame, mix_of(0, given), state, 0);
-    downmix(&mut frame, &first, state, 1);
-    downmix(&mut frame, &second, state, 2);
+    add_heard(&mut frame, l, state, read, given, 0);
+    add_heard(&mut frame, l, state, read, given, 1);
     frame
 }
 
-// Sends the new mix of an aux bus to its place where the bus is on.
+// Sends the new mix of an aux bus to its place where the bus is on. Whether it is on is a parameter, as in the definitions: with a branch
+// for each bus the caller's proof would go four ways.
 fn send(on: bool, mix: &[i32; MIX], write: &mut [u8], at: usize)
     requires { at + aux_bytes ≤ length write.old }
     ensures { write.new ≡ cond on (splice write.old at (word_bytes mix.now)) write.old }
