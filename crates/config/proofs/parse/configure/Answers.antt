@@ -97,7 +97,7 @@ returns-in_err-accept_entries c =
     let bytes = a.bytes.now in
     let cs = a.coefficients.now in
     let changed = dirty bytes _ c.read32.ensures c.if-read32-eq0.false in
-    let list = c.as_slice.ensures.value ∙ c.to_add-entries.ensures in
+    let list = c.as_slice.ensures.value ∙ c.to_add-entries.ensures.list in
     let r = c.in_err-accept_entries.field-0.0 in
     let is = c.in_err-accept_entries.ensures in
     let p = err_from_is_err_and c.from_residual.result c.from_residual.ensures.1 in
@@ -119,7 +119,7 @@ returns c =
     let bytes = a.bytes.now in
     let cs = a.coefficients.now in
     let changed = dirty bytes _ c.read32.ensures c.if-read32-eq0.false in
-    let list = c.as_slice.ensures.value ∙ c.to_add-entries.ensures in
+    let list = c.as_slice.ensures.value ∙ c.to_add-entries.ensures.list in
     let is = c.in_ok-accept_entries.ensures in
     let put = c.push_entries.ensures
     ∙ ap (λ (es : List Entry). pushed_all es c.settle-settled.result) (c.as_slice-2.ensures.value ∙ sym c.as_slice.ensures.value) in

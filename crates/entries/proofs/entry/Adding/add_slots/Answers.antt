@@ -1,16 +1,19 @@
 -- `entries::entry::Adding::add_slots` meets its contract. The invariant: behind what was there stand the entries of the slots passed.
 -- Assumes nothing.
-use Rattle.std.proofs.Common.{◌≡◌, ℕ, ◌+◌, Bool, List, [], ◌∷◌, ◌++◌, sym, ap, ◌∙◌, append_assoc, append-nil, add-one, arith}
-use Rattle.arrayvec.specs.ArrayVec.{ArrayVec, array_vec_len}
+use Rattle.std.proofs.Common.{◌≡◌, ℕ, ◌+◌, Bool, List, [], ◌∷◌, ◌++◌, sym, ap, ◌∙◌, length, append_assoc, append-nil, add-one, arith}
 use Rattle.lists.proofs.Bools.{cond_yes, cond_no}
 use Rattle.voice.specs.declared.record.Entry.{Entry}
 use Rattle.voice.specs.declared.record.Format.{Format}
 use Rattle.entries.specs.Entries.{slot_entries, slots_entries}
+use Rattle.entries.specs.Inner.{Listed}
 use Rattle.entries.proofs.entry.Adding.add_slots.Goals as goal
 use Rattle.entries.proofs.entry.Adding.add_slots.Goals.{then-adds, else-adds}
 
-abbrev items : ArrayVec Entry → List Entry
-items v = v.items
+abbrev items : Listed → List Entry
+items l = l.items
+
+abbrev long : Listed → ℕ
+long l = length l.items
 
 -- the entries of a slot more
 one_more : (bytes : List ℕ) (format : Format) (stereo : Bool) (old now new : List Entry) (k : ℕ)
@@ -27,15 +30,15 @@ loop-number-preserved c =
     let adding = c.args.self in
     let l = c.loop-number in record {
       room = elim c.if-adds.branch [
-        | then-adds w ↦ omega (arith, ap array_vec_len w.entries-is, w.push.ensures.len)
-        | else-adds w ↦ omega (arith, ap array_vec_len w.entries-is)
+        | then-adds w ↦ omega (arith, ap long w.entries-is, w.push.ensures.count)
+        | else-adds w ↦ omega (arith, ap long w.entries-is)
       ];
       list =
           one_more adding.bytes.now adding.format adding.stereo c.args.entries.now.items l.entries.items c.if-adds.entries.items l.number
           l.invariant.list
           (elim c.if-adds.branch [
             | then-adds w ↦
-                ap items w.entries-is ∙ w.push.ensures.items ∙ ap (λ (e : Entry). l.entries.items ++ (e ∷ [])) w.of_slot.ensures
+                ap items w.entries-is ∙ w.push.ensures.list ∙ ap (λ (e : Entry). l.entries.items ++ (e ∷ [])) w.of_slot.ensures
                 ∙ ap (λ (es : List Entry). l.entries.items ++ es) (sym (cond_yes _ _ (sym c.adds.ensures ∙ w.if-adds.true)))
             | else-adds w ↦
                 ap items w.entries-is ∙ sym (append-nil l.entries.items)
