@@ -6,8 +6,8 @@ use Prim.Native.Nat.{ℕ, zero, suc, ◌+◌, ◌*◌, ◌≤◌, ◌<◌, zero-
 use native.Mathlib.Nat.{le_of_suc-le-suc, not-suc-le-zero, zero-mul, suc-mul, add_comm, mul-le-mul_right}
 use native.Mathlib.Numerals.{add-one}
 use native.Mathlib.Omega.{arith}
-use lib.ListN.{length, take, drop, get_or, length-append}
-use lib.Seq.{take_at, drop_at, drop-drop, length-take-le}
+use lib.ListN.{length, take, drop, get_or, length-append, drop_of_length-le}
+use lib.Seq.{take_at, drop_at, drop-drop, take_all, length-take-le}
 use Rattle.lists.specs.Splice.{splice}
 use Rattle.lists.proofs.Splice.{splice_is, length_splice}
 
@@ -77,6 +77,14 @@ module _ {A B : Type 0} (f : A → List B) (w : ℕ) (wide : (x : A) → length 
           ∙ drop-drop (length new) (i * w) old
           ∙ ap (λ (n : ℕ). drop n old) (ap (λ (n : ℕ). i * w + n) (wide (get_or xs i d)) ∙ sym (next i))
 
+  -- at the loop's end
+  pub chunked_all :
+      (xs : List A) (old now : List B) (i : ℕ) → length xs ≤ i → Chunked xs old now i → now ≡ flat_map f xs ++ drop (length xs * w) old
+  chunked_all xs old now i h c = c.stored ∙ (λ j. flat_map f (take_all i xs h j) ++ drop (all j * w) old)
+    where
+      all : i ≡ length xs
+      all = omega (arith, c.reach)
+
   -- a turn made by a call that says what it spliced in
   pub chunked_called :
       (xs : List A) (old now : List B) (i : ℕ) (last new : List B) (d : A) → length xs * w ≤ length old → i < length xs
@@ -84,3 +92,9 @@ module _ {A B : Type 0} (f : A → List B) (w : ℕ) (wide : (x : A) → length 
       → last ≡ splice now (i * w) new → new ≡ f (get_or xs i d) → Chunked xs old last (i + 1)
   chunked_called xs old now i last new d fit h c e q =
       subst (λ (l : List B). Chunked xs old l (i + 1)) (sym (e ∙ ap (splice now (i * w)) q)) (chunked_more xs old now i d fit h c)
+
+  -- at the loop's end, where the chunks are as long as the list
+  pub chunked_full :
+      (xs : List A) (old now : List B) (i : ℕ) → length old ≤ length xs * w → length xs ≤ i → Chunked xs old now i → now ≡ flat_map f xs
+  chunked_full xs old now i fit h c =
+      chunked_all xs old now i h c ∙ ap (λ (l : List B). flat_map f xs ++ l) (drop_of_length-le old fit) ∙ append-nil (flat_map f xs)

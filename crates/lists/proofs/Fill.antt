@@ -2,7 +2,7 @@
 -- nothing.
 use mathlib.Core.Path.{◌≡◌, refl, sym, ap, ◌∙◌}
 use mathlib.Core.List.{List, [], ◌∷◌, ◌++◌, append-nil}
-use Prim.Native.Nat.{ℕ, zero, suc, ◌+◌, ◌-◌, ◌≤◌, ◌<◌}
+use Prim.Native.Nat.{ℕ, zero, suc, ◌+◌, ◌-◌, ◌≤◌, ◌<◌, zero-le}
 use native.Mathlib.Nat.{le_of_suc-le-suc, not-suc-le-zero}
 use native.Mathlib.Numerals.{add-one}
 use native.Mathlib.Omega.{arith}
@@ -57,6 +57,9 @@ pub record Filling {A : Type 0} (goal old now : List A) (i : ℕ) : Type 0 where
   pub stored : now ≡ filled goal old i
 
 module _ {A : Type 0} where
+  pub filling_none : (goal old : List A) → Filling goal old old 0
+  filling_none goal old = record { reach = zero-le; same = refl; stored = refl }
+
   pub filling_more :
       (goal old now : List A) (i : ℕ) (v d : A) → length goal ≡ length old → i < length old → Filling goal old now i → v ≡ get_or goal i d
       → Filling goal old (set now i v) (i + 1)

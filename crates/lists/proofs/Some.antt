@@ -1,12 +1,13 @@
--- A test on the elements of a list: what none, one or every element passing says of the elements, both ways, and what keeps that every
--- element passes. By induction on the list. Assumes nothing.
+-- A test on the elements of a list: what none, one or every element passing says of the elements, both ways, what keeps that every element
+-- passes, and how a loop comes by it, an element a turn. By induction on the list. Assumes nothing.
 use mathlib.Core.Path.{◌≡◌, refl, sym, ap, ◌∙◌}
 use mathlib.Core.Bool.{Bool, true, false, not, ◌&&◌, ◌||◌}
 use mathlib.Core.List.Memᴰ
 use mathlib.Core.List.{List, [], ◌∷◌, ◌++◌, Memᴰ}
 use mathlib.Core.Logic.{◌⊎◌, inl, inr}
-use Prim.Native.Nat.{ℕ, zero, suc, ◌<◌, zero-le, suc-le-suc}
+use Prim.Native.Nat.{ℕ, zero, suc, ◌+◌, ◌<◌, zero-le, suc-le-suc}
 use native.Mathlib.Nat.{le_of_suc-le-suc, not-suc-le-zero}
+use native.Mathlib.Numerals.{add-one}
 use native.Mathlib.Omega.{arith}
 use lib.ListN.{length, take, drop, get_or, set, replicate}
 use lib.Seq.{sets}
@@ -16,9 +17,17 @@ use Rattle.lists.specs.Tabulate.{tabulate}
 use Rattle.lists.proofs.Bools.{or_no, or_yes, or_one, or_neither, and_yes, and_both}
 
 module _ {A : Type 0} (test : A → Bool) where
+  or_assoc : (x y z : Bool) → (x || (y || z)) ≡ ((x || y) || z)
+  or_assoc true y z = refl
+  or_assoc false y z = refl
+
   or_true : (x : Bool) → (x || true) ≡ true
   or_true true = refl
   or_true false = refl
+
+  or_false : (x : Bool) → (x || false) ≡ x
+  or_false true = refl
+  or_false false = refl
 
   and_assoc : (x y z : Bool) → (x && (y && z)) ≡ ((x && y) && z)
   and_assoc true y z = refl
@@ -27,6 +36,18 @@ module _ {A : Type 0} (test : A → Bool) where
   not_or : (x y : Bool) → (x && not y) ≡ not (not x || y)
   not_or true y = refl
   not_or false y = refl
+
+  some_suc : (xs : List A) (i : ℕ) (d : A) → i < length xs → some test (take (suc i) xs) ≡ (some test (take i xs) || test (get_or xs i d))
+  some_suc [] i d h = absurd (not-suc-le-zero h)
+  some_suc (x ∷ xs) zero d h = or_false (test x)
+  some_suc (x ∷ xs) (suc i) d h =
+      ap (λ (b : Bool). test x || b) (some_suc xs i d (le_of_suc-le-suc h))
+      ∙ or_assoc (test x) (some test (take i xs)) (test (get_or xs i d))
+
+  -- of one element more
+  pub some_more :
+      (xs : List A) (i : ℕ) (d : A) → i < length xs → some test (take (i + 1) xs) ≡ (some test (take i xs) || test (get_or xs i d))
+  some_more xs i d h = rw add-one (some_suc xs i d h)
 
   -- none passes: each fails
   pub none_each : (xs : List A) (d : A) → some test xs ≡ false → (k : ℕ) → k < length xs → test (get_or xs k d) ≡ false

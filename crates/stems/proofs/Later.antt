@@ -3,12 +3,14 @@
 use mathlib.Core.Path.{◌≡◌, refl, ap, ◌∙◌}
 use mathlib.Core.Bool.{Bool}
 use mathlib.Core.List.{List, [], ◌∷◌, ◌++◌}
-use Prim.Native.Nat.{ℕ, zero, suc}
+use Prim.Native.Nat.{ℕ, zero, suc, ◌≤◌, ◌+◌}
+use native.Mathlib.Omega.{arith}
 use lib.IntN.{ℤ}
+use lib.ListN.{length, length-append}
 use Rattle.voice_frame.specs.VoiceFrame.{number_of, mixes_after}
 use Rattle.stems.specs.declared.Fixed.{Fixed}
 use Rattle.stems.specs.Memory.{Memory}
-use Rattle.stems.specs.Call.{answer, serve, serve_all, mixes_in, Refusal, noted, refusals_in}
+use Rattle.stems.specs.Call.{answer, serve, serve_all, mixes_in, Refusal, noted, refusals_in, up_to}
 use Rattle.stems.proofs.Serve.{Turn}
 use Rattle.stems.proofs.Turns.{Turns}
 
@@ -16,6 +18,11 @@ noted_more : (v n : ℕ) (rs ss : List Refusal) → noted v n (rs ++ ss) ≡ not
 unfolding noted
 noted_more v zero rs ss = refl
 noted_more v (suc n) rs ss = refl
+
+noted_one : (v n : ℕ) (rs : List Refusal) → length (noted v n rs) ≤ length rs + 1
+unfolding noted
+noted_one v zero rs = omega arith
+noted_one v (suc n) rs = omega arith
 
 module _ (fx : Fixed) (second : Bool) (v : ℕ) where
   pub serves_more : (vs : List ℕ) (m : Memory) → serve_all fx second (vs ++ (v ∷ [])) m ≡ serve fx second v (serve_all fx second vs m)
@@ -44,3 +51,19 @@ module _ (fx : Fixed) (second : Bool) (v : ℕ) where
   unfolding Turns serve_all
   turns_more [] m t last = (last, tt)
   turns_more (w ∷ ws) m t last = (t.0, turns_more ws (serve fx second w m) t.1 last)
+
+-- so many voices are refused at the most
+pub refusals_few : (fx : Fixed) (second : Bool) (vs : List ℕ) (m : Memory) → length (refusals_in fx second vs m) ≤ length vs
+unfolding refusals_in
+refusals_few fx second [] m = omega arith
+refusals_few fx second (w ∷ ws) m =
+    omega (
+      arith,
+      noted_one w (number_of (answer fx second w m)) (refusals_in fx second ws (serve fx second w m)),
+      refusals_few fx second ws (serve fx second w m),
+    )
+
+pub up_long : (n : ℕ) → length (up_to n) ≡ n
+unfolding up_to
+up_long zero = refl
+up_long (suc n) = length-append (up_to n) (n ∷ []) ∙ omega (arith, up_long n)
