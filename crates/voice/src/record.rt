@@ -23,7 +23,7 @@ pub enum Interpolation {
 
 // An entry of the queue, the source's `Buffer`. The fields stand by their sizes, so that there are no gaps between them: entries are most
 // of a record, and a record is copied often.
-// An entry is small, 28 bytes, and is taken by value where it is only read.
+// An entry is small, 24 bytes, and is taken by value where it is only read.
 #[derive(Clone, Copy, Default)]
 pub struct Entry {
     pub address: u32,
