@@ -2,8 +2,8 @@
 use fields::config::CONFIG_SIZE;
 use fields::status::STATUS_SIZE;
 use numbers::sizes::MIXES;
-use record_reader::RECORD;
-use record_reader::formed::{formed_record, served_record};
+use record_reader::formed::{accept_lane, accept_record};
+use record_reader::{RECORD, record_of};
 use record_writer::put_record;
 use refusals::Refusal;
 use settings::steps::COEFFICIENT_BYTES;
@@ -12,7 +12,8 @@ use window::Window;
 
 // Reads the record and writes it back as it is: what `serve` does besides serving.
 pub fn reread(lane: usize, bytes: &mut [u8; RECORD]) -> Result<(), Refusal> {
-    let v = formed_record(bytes, lane)?;
+    let v = record_of(bytes);
+    accept_record(&v, lane)?;
     put_record(&v, bytes);
     Ok(())
 }
@@ -28,7 +29,9 @@ pub fn serve(
     mixes: &mut [i32; MIXES],
     report: &mut [u8; STATUS_SIZE],
 ) -> Result<(), Refusal> {
-    let v = served_record(bytes, lane.len())?;
+    accept_lane(lane.len())?;
+    let v = record_of(bytes);
+    accept_record(&v, lane.len())?;
     let after = served(v, lane, configuration, coefficients, window, mixes, report);
     put_record(&after.unwrap_or(v), bytes);
     after.map(|_| ())

@@ -1,8 +1,8 @@
 // A configuration read into the record.
 use config::parse::configure as configured;
 use fields::config::CONFIG_SIZE;
-use record_reader::RECORD;
-use record_reader::formed::formed_record;
+use record_reader::formed::accept_record;
+use record_reader::{RECORD, record_of};
 use record_writer::put_record;
 use refusals::Refusal;
 use settings::steps::COEFFICIENT_BYTES;
@@ -10,7 +10,8 @@ use voice::tidy::tidy;
 
 // Reads the record and writes it back as serving leaves it: what `configure` does besides configuring.
 pub fn record(lane: usize, bytes: &mut [u8; RECORD]) -> Result<(), Refusal> {
-    let mut v = formed_record(bytes, lane)?;
+    let mut v = record_of(bytes);
+    accept_record(&v, lane)?;
     tidy(&mut v);
     put_record(&v, bytes);
     Ok(())
@@ -24,7 +25,8 @@ pub fn configure(
     configuration: &mut [u8; CONFIG_SIZE],
     coefficients: &[u8; COEFFICIENT_BYTES],
 ) -> Result<(), Refusal> {
-    let v = formed_record(bytes, lane)?;
+    let v = record_of(bytes);
+    accept_record(&v, lane)?;
     match configured(v, configuration, coefficients, lane) {
         Ok(mut after) => {
             tidy(&mut after);
