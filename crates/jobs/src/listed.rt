@@ -33,7 +33,7 @@ fn shown<'a>(text: &[u8], out: &'a mut [u8; ROOM]) -> Option<&'a [u8]>
     requires { length text.now < 2 ^ 32 }
     ensures { IfSome result (λ s. length s.now ≤ 1032) }
 {
-    let words = [text.len() as u32, sum(text, u32::from)];
+    let words = [text.len() as u32, sum(text)];
     put_each(&words, out);
     let last = &text[text.len().saturating_sub(SHOWN)..];
     let end = 8 + last.len();

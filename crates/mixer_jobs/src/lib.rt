@@ -78,7 +78,7 @@ fn answer_of(mixed: Mixed, first: &[u8], second: &[u8]) -> [u8; ANSWER] {
     answer[0] = answered(mixed.outcome);
     put_state(mixed.mixer, answer[4..].first_chunk_mut().unwrap());
     put_frame(&mixed.frame, answer[20..].first_chunk_mut().unwrap());
-    let sums = [sum(first, u32::from), sum(second, u32::from)];
+    let sums = [sum(first), sum(second)];
     put_each(&sums, &mut answer[660..]);
     answer
 }

@@ -42,8 +42,13 @@ pub fn put_each<const N: usize, T: InBytes<N>>(values: &[T], bytes: &mut [u8]) {
     }
 }
 
-// A sum in which every value and its place count.
-pub fn sum<T: Copy, F: Fn(T) -> u32>(values: &[T], word: F) -> u32
+// A sum in which every byte and its place count.
+pub fn sum(bytes: &[u8]) -> u32 {
+    sum_of(bytes, u32::from)
+}
+
+// The same of values, each by its word.
+pub fn sum_of<T: Copy, F: Fn(T) -> u32>(values: &[T], word: F) -> u32
     requires { F.IsAlwaysCallable word }
 {
     values.iter().fold(0u32, |total, value| {
@@ -80,6 +85,7 @@ mod tests {
 
     #[test]
     fn places_count(rt: HostRuntime) {
-        assert!(rt; sum(&[1u8, 2], u32::from) == 33 && sum(&[2u8, 1], u32::from) == 63);
+        assert!(rt; sum(&[1, 2]) == 33 && sum(&[2, 1]) == 63);
+        assert!(rt; sum_of(&[0i32, -1], i32::cast_unsigned) == u32::MAX);
     }
 }

@@ -8,7 +8,7 @@ use frame_jobs::serving::serve;
 use numbers::sizes::MIXES;
 use refusals::answered;
 use replaying::answering::{Stop, read_bytes, read_word};
-use replaying::{put_each, read_array, sum};
+use replaying::{put_each, read_array, sum_of};
 use window::Window;
 
 const LANE: usize = 64;
@@ -45,5 +45,5 @@ pub fn answer(rt: &HostRuntime) -> Result<(), Stop> {
     rt.write_all(&status)?;
     put_each(&lane, &mut samples);
     rt.write_all(&samples)?;
-    Ok(rt.write_all(&sum(&mixes, i32::cast_unsigned).to_le_bytes())?)
+    Ok(rt.write_all(&sum_of(&mixes, i32::cast_unsigned).to_le_bytes())?)
 }
