@@ -34,7 +34,7 @@ pub extern "C" fn yinzhor_write_dsp32(bytes: &mut [u8], at: usize, value: u32)
 pub extern "C" fn yinzhor_layout_number(first: usize, second: usize, offsets: &[u8]) -> u8
     requires { length offsets.now ≡ 28 }
 {
-    let l = mixer_forms::layout_of(offsets.as_array().unwrap());
+    let l = mixer_forms::layout_of(offsets, 0);
     answered(layout::accept(first, second, l))
 }
 
@@ -118,10 +118,10 @@ pub extern "C" fn yinzhor_mixer_tick(
     requires whole_state { length state.old ≡ 16 }
     requires whole_frame { length frame.old ≡ 640 }
 {
-    let given = mixer_forms::state_of(state.as_array().unwrap());
-    let l = mixer_forms::layout_of(offsets.as_array().unwrap());
+    let given = mixer_forms::state_of(state);
+    let l = mixer_forms::layout_of(offsets, 0);
     let mixed = mixer::tick::tick(given, l, read, first, second, mixes);
-    mixer_forms::put_frame(&mixed.frame, frame.as_mut_array().unwrap());
-    mixer_forms::put_state(mixed.mixer, state.as_mut_array().unwrap());
+    mixer_forms::put_frame(&mixed.frame, frame, 0);
+    mixer_forms::put_state(mixed.mixer, state, 0);
     answered(mixed.outcome)
 }

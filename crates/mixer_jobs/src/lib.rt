@@ -76,15 +76,19 @@ fn put_read(part: &[u8; PART], region: &mut [u8; MOST_BYTES]) {
 fn answer_of(mixed: Mixed, first: &[u8], second: &[u8]) -> [u8; ANSWER] {
     let mut answer = [0u8; ANSWER];
     answer[0] = answered(mixed.outcome);
-    put_state(mixed.mixer, answer[4..].first_chunk_mut().unwrap());
-    put_frame(&mixed.frame, answer[20..].first_chunk_mut().unwrap());
+    put_state(mixed.mixer, &mut answer, 4);
+    put_frame(&mixed.frame, &mut answer, 20);
     let sums = [sum(first), sum(second)];
     put_each(&sums, &mut answer[660..]);
     answer
 }
 
-pub fn answer(part: &[u8]) -> Option<[u8; ANSWER]> {
-    let part = part.as_array::<PART>()?;
+// Makes the call on regions of so many bytes, with so many values for mixes.
+fn call(part: &[u8; PART], one: usize, two: usize, many: usize) -> [u8; ANSWER]
+    requires one_bound { one ≤ MOST_BYTES }
+    requires two_bound { two ≤ MOST_BYTES }
+    requires many_bound { many ≤ MOST_VALUES }
+{
     let mut first = [part[60]; MOST_BYTES];
     let mut second = [part[61]; MOST_BYTES];
     let which = read(&part[56..]);
@@ -94,11 +98,27 @@ pub fn answer(part: &[u8]) -> Option<[u8; ANSWER]> {
         put_read(part, &mut second);
     }
     let values = mixes_of(part);
-    let first = first.get_mut(..size_at(part, 44))?;
-    let second = second.get_mut(..size_at(part, 48))?;
-    let given = values.get(..size_at(part, 52))?;
-    let state = state_of(part.first_chunk().unwrap());
-    let layout = layout_of(part[16..].first_chunk().unwrap());
-    let mixed = tick(state, layout, which, first, second, given);
-    Some(answer_of(mixed, first, second))
+    let first = &mut first[..one];
+    let second = &mut second[..two];
+    let mixed = tick(
+        state_of(part),
+        layout_of(part, 16),
+        which,
+        first,
+        second,
+        &values[..many],
+    );
+    answer_of(mixed, first, second)
+}
+
+// The sizes are tested before any memory is filled.
+pub fn answer(part: &[u8]) -> Option<[u8; ANSWER]> {
+    let part = part.as_array::<PART>()?;
+    let one = size_at(part, 44);
+    let two = size_at(part, 48);
+    let many = size_at(part, 52);
+    if one > MOST_BYTES || two > MOST_BYTES || many > MOST_VALUES {
+        return None;
+    }
+    Some(call(part, one, two, many))
 }

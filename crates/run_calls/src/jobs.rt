@@ -72,11 +72,11 @@ fn size(head: &[u8; HEAD], at: usize) -> usize
 }
 
 fn layout_of(head: &[u8; HEAD]) -> Layout {
-    mixer_forms::layout_of(head[8..].first_chunk().unwrap())
+    mixer_forms::layout_of(head, 8)
 }
 
 fn state_of(head: &[u8; HEAD]) -> Mixer {
-    mixer_forms::state_of(head[44..].first_chunk().unwrap())
+    mixer_forms::state_of(&head[44..])
 }
 
 fn call_of(head: &[u8; HEAD]) -> Result<Call, Reason> {

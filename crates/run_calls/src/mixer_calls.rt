@@ -28,8 +28,8 @@ fn repeat(
 fn start_of(mixed: Mixed) -> [u8; ANSWER] {
     let mut start = [0u8; ANSWER];
     start[0] = answered(mixed.outcome);
-    put_state(mixed.mixer, start[52..].first_chunk_mut().unwrap());
-    put_frame(&mixed.frame, start[68..].first_chunk_mut().unwrap());
+    put_state(mixed.mixer, &mut start, 52);
+    put_frame(&mixed.frame, &mut start, 68);
     start
 }
 
