@@ -23,10 +23,9 @@
 ghost use Rattle.std.specs.Prelude.{◌<◌, ◌≤◌, ◌^◌};
 
 use crate::fault::{Fault, Reason};
-use crate::parts::{Fields, MOST_RECORDS, MOST_SAMPLES, MOST_VALUES};
+use crate::parts::{Fields, MOST_RECORDS, MOST_SAMPLES, MOST_VALUES, Places};
 use crate::{mixer_calls, voice_calls};
-use layout::Layout;
-use mixer_state::Mixer;
+use mixer_forms::{layout_of, state_of};
 use record_reader::RECORD;
 use replaying::answering::{Stop, read_all, read_bytes};
 use replaying::read;
@@ -37,15 +36,15 @@ const HEAD: usize = 84;
 pub const ANSWER: usize = 708;
 
 // The most bytes that a job has of each field.
-const RECORDS: usize = MOST_RECORDS * RECORD;
+pub const RECORDS: usize = MOST_RECORDS * RECORD;
 
-const REGION: usize = 65537;
+pub const REGION: usize = 65537;
 
-const WINDOW: usize = 65536;
+pub const WINDOW: usize = 65536;
 
-const LANES: usize = MOST_SAMPLES * 2;
+pub const LANES: usize = MOST_SAMPLES * 2;
 
-const MIXES: usize = MOST_VALUES * 4;
+pub const MIXES: usize = MOST_VALUES * 4;
 
 // What is called.
 #[derive(Clone, Copy)]
@@ -71,14 +70,6 @@ fn size(head: &[u8; HEAD], at: usize) -> usize
     word(head, at) as usize
 }
 
-fn layout_of(head: &[u8; HEAD]) -> Layout {
-    mixer_forms::layout_of(head, 8)
-}
-
-fn state_of(head: &[u8; HEAD]) -> Mixer {
-    mixer_forms::state_of(&head[44..])
-}
-
 fn call_of(head: &[u8; HEAD]) -> Result<Call, Reason> {
     match word(head, 0) {
         0 => Ok(Call::Whole),
@@ -97,27 +88,56 @@ fn times_of(head: &[u8; HEAD]) -> Result<u32, Reason> {
 }
 
 // Makes the call so many times, and gives the start of the answer.
-fn answer_of(call: Call, times: u32, head: &[u8; HEAD], fields: &mut Fields<'_>) -> [u8; ANSWER] {
-    let layout = layout_of(head);
+fn answer_of(
+    call: Call,
+    times: u32,
+    head: &[u8; HEAD],
+    fields: &mut Fields<'_>,
+    places: &mut Places<'_>,
+) -> [u8; ANSWER] {
+    let layout = layout_of(head, 8);
     let base = word(head, 36);
     let fixed = Fixed { layout, base };
     match call {
-        Call::Whole => voice_calls::call(None, times, fixed, fields),
-        Call::Alone(voice) => voice_calls::call(Some(voice), times, fixed, fields),
-        Call::Mixer(read) => mixer_calls::call(times, state_of(head), layout, read, fields),
+        Call::Whole => voice_calls::call(
+            None,
+            times,
+            fixed,
+            fields,
+            places.voices,
+            places.samples,
+            places.values,
+        ),
+        Call::Alone(voice) => voice_calls::call(
+            Some(voice),
+            times,
+            fixed,
+            fields,
+            places.voices,
+            places.samples,
+            places.values,
+        ),
+        Call::Mixer(read) => {
+            let state = state_of(&head[44..]);
+            mixer_calls::call(times, state, layout, read, fields, places.values)
+        }
     }
 }
 
-// Reads and answers the job that this head begins.
-fn job(rt: &HostRuntime, head: &[u8; HEAD]) -> Result<(), Fault> {
+// Reads and answers the job that this head begins. Of what is lent for its fields it has the first bytes, as many as the head says.
+fn job(
+    rt: &HostRuntime,
+    head: &[u8; HEAD],
+    records: &mut [u8],
+    first: &mut [u8],
+    second: &mut [u8],
+    window: &mut [u8],
+    lanes: &mut [u8],
+    mixes: &mut [u8],
+    places: &mut Places<'_>,
+) -> Result<(), Fault> {
     let call = call_of(head)?;
     let times = times_of(head)?;
-    let mut records = [0u8; RECORDS];
-    let mut first = [0u8; REGION];
-    let mut second = [0u8; REGION];
-    let mut window = [0u8; WINDOW];
-    let mut lanes = [0u8; LANES];
-    let mut mixes = [0u8; MIXES];
     let records = records
         .get_mut(..size(head, 60) * RECORD)
         .ok_or(Reason::Records)?;
@@ -135,21 +155,40 @@ fn job(rt: &HostRuntime, head: &[u8; HEAD]) -> Result<(), Fault> {
         mixes,
     };
     fields.read(rt)?;
-    rt.write_all(&answer_of(call, times, head, &mut fields))?;
+    rt.write_all(&answer_of(call, times, head, &mut fields, places))?;
     Ok(fields.write(rt)?)
 }
 
 // Answers the job that begins with this byte.
-fn from_first(rt: &HostRuntime, first: u8) -> Result<(), Fault> {
+fn from_first(
+    rt: &HostRuntime,
+    first: u8,
+    room: &mut Fields<'_>,
+    places: &mut Places<'_>,
+) -> Result<(), Fault> {
     let mut head = [first; HEAD];
     read_all(rt, &mut head[1..])?;
-    job(rt, &head)
+    job(
+        rt,
+        &head,
+        room.records,
+        room.first,
+        room.second,
+        room.window,
+        room.lanes,
+        room.mixes,
+        places,
+    )
 }
 
-// Answers one job. Where the input ends before it there is none.
-pub fn answer(rt: &HostRuntime) -> Result<(), Stop> {
+// Answers one job. Where the input ends before it there is none. What is lent is room for its fields, and for what is not bytes among them.
+pub fn answer(
+    rt: &HostRuntime,
+    room: &mut Fields<'_>,
+    places: &mut Places<'_>,
+) -> Result<(), Stop> {
     let [first] = read_bytes::<1>(rt)?;
-    match from_first(rt, first) {
+    match from_first(rt, first, room, places) {
         Ok(()) => Ok(()),
         Err(Fault::Failed(error)) => Err(Stop::Failed(error)),
         Err(Fault::Bad(reason)) => {

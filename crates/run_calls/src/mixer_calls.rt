@@ -1,6 +1,6 @@
 // The mixer's call.
 use crate::jobs::ANSWER;
-use crate::parts::{Fields, MOST_VALUES, filled};
+use crate::parts::{Fields, filled};
 use layout::Layout;
 use mixer::tick::{Mixed, tick};
 use mixer_forms::{put_frame, put_state};
@@ -33,15 +33,15 @@ fn start_of(mixed: Mixed) -> [u8; ANSWER] {
     start
 }
 
-// The mixes are only read.
+// The mixes are only read. What is lent beside the fields is places for their values.
 pub fn call(
     times: u32,
     state: Mixer,
     l: Layout,
     read: u32,
     fields: &mut Fields<'_>,
+    values: &mut [i32],
 ) -> [u8; ANSWER] {
-    let mut values = [0i32; MOST_VALUES];
-    let mixes = filled(fields.mixes, &mut values);
+    let mixes = filled(fields.mixes, values);
     start_of(repeat(times, state, l, read, fields.first, fields.second, mixes))
 }

@@ -1,4 +1,4 @@
-// What follows a job's head: the bytes of all that the call is lent.
+// What follows a job's head, the bytes of all that the call is lent; and the places that what is not bytes is read into.
 ghost use Rattle.std.specs.Prelude.{◌≡◌, ◌/◌, length, min};
 
 use numbers::sizes::{MIXES, VOICES};
@@ -6,6 +6,7 @@ use replaying::answering::{Stop, read_all};
 use replaying::read_each;
 use replaying::stored::InBytes;
 use std::io;
+use voice::record::Voice;
 
 // The most records that a job has, one more than there are voices.
 pub const MOST_RECORDS: usize = VOICES + 1;
@@ -23,6 +24,14 @@ pub fn filled<'a, const N: usize, T: InBytes<N>>(bytes: &[u8], places: &'a mut [
     read_each(bytes, places);
     let count = (bytes.len() / N).min(places.len());
     &mut places[..count]
+}
+
+// Places for what is not bytes among the fields, as many as a job may have of each.
+#[derive(Drop)]
+pub struct Places<'a> {
+    pub voices: &'a mut [Voice],
+    pub samples: &'a mut [i16],
+    pub values: &'a mut [i32],
 }
 
 #[derive(Drop)]

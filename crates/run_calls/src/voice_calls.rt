@@ -1,6 +1,6 @@
 // The calls for all voices and for one voice alone.
 use crate::jobs::ANSWER;
-use crate::parts::{Fields, MOST_RECORDS, MOST_SAMPLES, MOST_VALUES, filled};
+use crate::parts::{Fields, filled};
 use alone::tick_voice;
 use calls::refused::Refused;
 use record_reader::{RECORD, record_of};
@@ -101,22 +101,22 @@ pub fn call(
     times: u32,
     fixed: Fixed,
     fields: &mut Fields<'_>,
+    voices: &mut [Voice],
+    samples: &mut [i16],
+    values: &mut [i32],
 ) -> [u8; ANSWER] {
-    let mut voices = [Voice::default(); MOST_RECORDS];
-    let mut samples = [0i16; MOST_SAMPLES];
-    let mut values = [0i32; MOST_VALUES];
     // taken out first: a field behind a reference is not read while another one is lent
     let records = &mut *fields.records;
     let window = &mut *fields.window;
     let lanes = &mut *fields.lanes;
     let mixes = &mut *fields.mixes;
     let mut lent = Lent {
-        records: records_of(records, &mut voices),
+        records: records_of(records, voices),
         first: &mut *fields.first,
         second: &mut *fields.second,
         window,
-        lanes: filled(lanes, &mut samples),
-        mixes: filled(mixes, &mut values),
+        lanes: filled(lanes, samples),
+        mixes: filled(mixes, values),
     };
     let answer = lent.calls(times, alone, fixed);
     put_records(lent.records, records);
