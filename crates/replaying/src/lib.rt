@@ -5,30 +5,43 @@
 pub mod answering;
 pub mod stored;
 
+ghost use Rattle.std.specs.Prelude.{◌≡◌, ◌<◌, ◌≤◌, ◌++◌, ℕ, length, drop, replicate, fold};
+ghost use Rattle.replaying.specs.Stored.{front_of, read_over, with_place};
+
 use stored::InBytes;
 
 // The value that the bytes begin with, or that of zeros where they are too few.
-pub fn read<const N: usize, T: InBytes<N>>(bytes: &[u8]) -> T {
+pub fn read<const N: usize, T: InBytes<N>>(bytes: &[u8]) -> T
+    ensures { result ≡ T.held (front_of N bytes.now) }
+{
     T::of(*bytes.first_chunk::<N>().unwrap_or(&[0; N]))
 }
 
 // Puts a value where the bytes begin, or nothing where they are too few.
-pub fn put<const N: usize, T: InBytes<N>>(value: T, bytes: &mut [u8]) {
-    if let Some(first) = bytes.first_chunk_mut::<N>() {
-        *first = value.stored();
+pub fn put<const N: usize, T: InBytes<N>>(value: T, bytes: &mut [u8])
+    ensures room { N ≤ length bytes.old → bytes.new ≡ T.bytes_of value ++ drop N bytes.old }
+    ensures none { length bytes.old < N → bytes.new ≡ bytes.old }
+{
+    if N <= bytes.len() {
+        bytes[..N].copy_from_slice(&value.stored());
     }
 }
 
 // Reads values one after the other, as many as both have.
-pub fn read_each<const N: usize, T: InBytes<N>>(bytes: &[u8], values: &mut [T]) {
+pub fn read_each<const N: usize, T: InBytes<N>>(bytes: &[u8], values: &mut [T])
+    ensures { values.new ≡ read_over T.held N bytes.now values.old }
+{
     let (parts, _) = bytes.as_chunks::<N>();
-    for (value, part) in values.iter_mut().zip(parts) {
-        *value = T::of(*part);
+    let count = parts.len().min(values.len());
+    for (i, part) in parts[..count].iter().enumerate() {
+        values[i] = T::of(*part);
     }
 }
 
 // The first K values, those of zeros for what the bytes do not have.
-pub fn read_array<const N: usize, const K: usize, T: InBytes<N>>(bytes: &[u8]) -> [T; K] {
+pub fn read_array<const N: usize, const K: usize, T: InBytes<N>>(bytes: &[u8]) -> [T; K]
+    ensures { result ≡ read_over T.held N bytes.now (replicate K (T.held (replicate N 0))) }
+{
     let mut values = [T::of([0; N]); K];
     read_each::<N, T>(bytes, &mut values);
     values
@@ -42,18 +55,31 @@ pub fn put_each<const N: usize, T: InBytes<N>>(values: &[T], bytes: &mut [u8]) {
     }
 }
 
+// The sum so far, with one word more.
+fn with_place(total: u32, word: u32) -> u32
+    ensures { result ≡ with_place total word }
+{
+    total.wrapping_mul(31).wrapping_add(word)
+}
+
 // A sum in which every byte and its place count.
-pub fn sum(bytes: &[u8]) -> u32 {
-    sum_of(bytes, u32::from)
+pub fn sum(bytes: &[u8]) -> u32
+    ensures { result ≡ fold with_place 0 bytes.now }
+{
+    bytes
+        .iter()
+        .fold(0, |total, byte| with_place(total, u32::from(*byte)))
 }
 
 // The same of values, each by its word.
 pub fn sum_of<T: Copy, F: Fn(T) -> u32>(values: &[T], word: F) -> u32
     requires { F.IsAlwaysCallable word }
+    ensures { (h : T → ℕ) → ((x : T) (r : ℕ) → F.post word x r → r ≡ h x)
+        → result ≡ fold (λ total x. with_place total (h x)) 0 values.now }
 {
-    values.iter().fold(0u32, |total, value| {
-        total.wrapping_mul(31).wrapping_add(word(*value))
-    })
+    values
+        .iter()
+        .fold(0, |total, value| with_place(total, word(*value)))
 }
 
 #[cfg(test)]
