@@ -10,7 +10,6 @@ use lib.IntN.{ℤ}
 use lib.ListN.{length, get_or}
 use borrow.Author.Tests.{ltb-false}
 use Rattle.std.specs.Prelude.{Result, Ok}
-use Rattle.arrayvec.specs.ArrayVec.{ArrayVec}
 use Rattle.refusals.specs.declared.Refusal.{Refusal as Reason}
 use Rattle.refusals.specs.Numbers.{number}
 use Rattle.lists.specs.Some.{some}
@@ -28,7 +27,7 @@ use Rattle.stems.proofs.Shape.{neither}
 use Rattle.calls.specs.Refused.{refusals_of}
 use Rattle.calls.specs.Begin.{second_of, lengths_code}
 use Rattle.calls.specs.Lent.{lent}
-use Rattle.calls.specs.declared.refused.RefusedVoice.{RefusedVoice}
+use Rattle.calls.specs.declared.refused.Refused.{Refused}
 use Rattle.turns.specs.Turns.{State, beginning}
 use Rattle.alone.specs.Inner.{ticked}
 use Rattle.turns.proofs.Begun.{each_formed, all_voices_lem}
@@ -75,10 +74,10 @@ module _ (fx : Fixed) (v : ℕ) (r0 r1 w : List ℕ) (ys : List Voice) (lanes mi
   none_listed : (alone_number fx v x ≡ 0 → ⊥) → Lists []
   none_listed h = sym (no_refusals (alone_number fx v x) fx x (v ∷ []) h)
 
-  pub refused_call : (e : Reason) → number e ≡ code → (r : Result (ArrayVec RefusedVoice) Reason) → GivenBack e r → Ensured fx v x r x
+  pub refused_call : (e : Reason) → number e ≡ code → (r : Result Refused Reason) → GivenBack e r → Ensured fx v x r x
   refused_call = refused_by_lengths (alone_number fx v x) (left fx v x) Lists x untouched none_listed code late number_is
 
-  pub late_call : (e : Reason) → code ≡ 0 → number e ≡ late → (r : Result (ArrayVec RefusedVoice) Reason) → GivenBack e r
+  pub late_call : (e : Reason) → code ≡ 0 → number e ≡ late → (r : Result Refused Reason) → GivenBack e r
       → Ensured fx v x r x
   late_call = refused_later (alone_number fx v x) (left fx v x) Lists x untouched none_listed code late number_is
 
@@ -127,7 +126,7 @@ module _ (fx : Fixed) (v : ℕ) (r0 r1 w : List ℕ) (ys : List Voice) (lanes mi
         turn_carried fx w second v first
         ∙ ap (λ (n : ℕ). refusals n fx x (v ∷ [])) (sym number_0)
 
-    pub served_call : (refused : ArrayVec RefusedVoice) (zs : List Voice) (s0 s1 : List ℕ) (ls ms : List ℤ)
+    pub served_call : (refused : Refused) (zs : List Voice) (s0 s1 : List ℕ) (ls ms : List ℤ)
         → refusals_of refused.items ≡ last.refused → zs ≡ last.voices → s0 ≡ last.region0 → s1 ≡ last.region1 → ls ≡ last.lanes
         → ms ≡ last.mixes → Ensured fx v x (Ok refused) (lent s0 s1 w zs ls ms)
     served_call = served (alone_number fx v x) (left fx v x) Lists fx w last memory_is mixes_are refused_is number_0

@@ -1,9 +1,9 @@
 -- The refused voices of a call as they are given back. Assumes nothing: these are definitions.
 use Rattle.std.specs.Prelude.{ℕ, List, [], ◌++◌, map, Result, Ok, Err}
-use Rattle.arrayvec.specs.ArrayVec.{ArrayVec}
 use Rattle.refusals.specs.declared.Refusal.{Refusal as Reason}
 use Rattle.refusals.specs.Numbers.{number}
 use Rattle.stems.specs.Call.{Refusal, noted}
+use Rattle.calls.specs.declared.refused.Refused.{Refused}
 use Rattle.calls.specs.declared.refused.RefusedVoice.{RefusedVoice}
 
 -- the refusal that a listed voice stands for
@@ -15,7 +15,7 @@ abbrev pub refusals_of : List RefusedVoice → List Refusal
 refusals_of = map refusal
 
 -- what a call gives back lists: a call that is refused as a whole lists none
-abbrev pub given : Result (ArrayVec RefusedVoice) Reason → List Refusal
+abbrev pub given : Result Refused Reason → List Refusal
 given (Ok refused) = refusals_of refused.items
 given (Err reason) = []
 

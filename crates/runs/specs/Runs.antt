@@ -2,7 +2,6 @@
 -- the two contracts in the place of its calls, and `CallsRun` says that there are such runs. Assumes nothing: these are definitions and
 -- statements; `as_ensured`, `calls_compared` and `calls_run` of proofs/Runs.antt prove them.
 use Rattle.std.specs.Prelude.{◌≡◌, ℕ, ◌<◌, List, Result, length, get_or}
-use Rattle.arrayvec.specs.ArrayVec.{ArrayVec}
 use Rattle.refusals.specs.declared.Refusal.{Refusal}
 use Rattle.refusals.specs.Numbers.{number_of}
 use Rattle.stems.specs.Call.{Outcome, whole_number, alone_number}
@@ -10,13 +9,13 @@ use Rattle.stems.specs.Memory.{VOICES, Lent, Typed}
 use Rattle.stems.specs.Stems.{Frame, still, TypedFrame, lent, Compared}
 use Rattle.stems.specs.declared.Fixed.{Fixed}
 use Rattle.calls.specs.Refused.{given}
-use Rattle.calls.specs.declared.refused.RefusedVoice.{RefusedVoice}
+use Rattle.calls.specs.declared.refused.Refused.{Refused}
 use Rattle.voices.specs.Tick.{left as leftByAll, RefusedBy, Ensured}
 use Rattle.alone.specs.TickVoice.{left as leftByOne, refused, Ensured as VoiceEnsured}
 
 -- what a call gives back, and all that was lent to it as it leaves it
 pub record Done : Type 0 where
-  pub returned : Result (ArrayVec RefusedVoice) Refusal
+  pub returned : Result Refused Refusal
   pub after : Lent
 
 -- ---- what the contracts say

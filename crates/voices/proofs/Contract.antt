@@ -9,7 +9,6 @@ use native.Mathlib.Omega.{arith}
 use lib.IntN.{ℤ}
 use lib.ListN.{length}
 use Rattle.std.specs.Prelude.{Result, Ok}
-use Rattle.arrayvec.specs.ArrayVec.{ArrayVec}
 use Rattle.refusals.specs.declared.Refusal.{Refusal as Reason}
 use Rattle.refusals.specs.Numbers.{number}
 use Rattle.lists.specs.Some.{some}
@@ -27,7 +26,7 @@ use Rattle.stems.proofs.Whole.{every_order_long, refusals_order}
 use Rattle.calls.specs.Refused.{refusals_of}
 use Rattle.calls.specs.Begin.{second_of, lengths_code}
 use Rattle.calls.specs.Lent.{lent}
-use Rattle.calls.specs.declared.refused.RefusedVoice.{RefusedVoice}
+use Rattle.calls.specs.declared.refused.Refused.{Refused}
 use Rattle.turns.specs.Turns.{State, LongAt}
 use Rattle.turns.proofs.Begun.{each_formed, room, all_voices_lem}
 use Rattle.turns.proofs.Contract.{GivenBack, no_refusals, refused_by_lengths, refused_later, served}
@@ -72,11 +71,11 @@ module _ (fx : Fixed) (r0 r1 w : List ℕ) (ys : List Voice) (lanes mixes : List
     is = sym (no_refusals (whole_number fx x) fx x all_voices h);
   }
 
-  pub refused_call : (e : Reason) → number e ≡ code → (r : Result (ArrayVec RefusedVoice) Reason) → GivenBack e r → Ensured fx x r x
+  pub refused_call : (e : Reason) → number e ≡ code → (r : Result Refused Reason) → GivenBack e r → Ensured fx x r x
   refused_call =
       refused_by_lengths (whole_number fx x) (left fx x) (RefusedBy fx x) x untouched none_listed code seven number_is
 
-  pub malformed_call : (e : Reason) → code ≡ 0 → number e ≡ seven → (r : Result (ArrayVec RefusedVoice) Reason) → GivenBack e r
+  pub malformed_call : (e : Reason) → code ≡ 0 → number e ≡ seven → (r : Result Refused Reason) → GivenBack e r
       → Ensured fx x r x
   malformed_call = refused_later (whole_number fx x) (left fx x) (RefusedBy fx x) x untouched none_listed code seven number_is
 
@@ -136,7 +135,7 @@ module _ (fx : Fixed) (r0 r1 w : List ℕ) (ys : List Voice) (lanes mixes : List
             ∙ ap (λ (n : ℕ). refusals n fx x all_voices) (sym number_0);
       }
 
-      pub served_call : (refused : ArrayVec RefusedVoice) (zs : List Voice) (s0 s1 : List ℕ) (ls ms : List ℤ)
+      pub served_call : (refused : Refused) (zs : List Voice) (s0 s1 : List ℕ) (ls ms : List ℤ)
           → refusals_of refused.items ≡ last.refused → zs ≡ last.voices → s0 ≡ last.region0 → s1 ≡ last.region1 → ls ≡ last.lanes
           → ms ≡ last.mixes → Ensured fx x (Ok refused) (lent s0 s1 w zs ls ms)
       served_call =

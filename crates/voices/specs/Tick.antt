@@ -1,7 +1,6 @@
 -- What the call for all voices gives back and leaves, whatever the order in which it takes the voices. Assumes nothing: these are
 -- definitions.
 use Rattle.std.specs.Prelude.{◌≡◌, List, Result}
-use Rattle.arrayvec.specs.ArrayVec.{ArrayVec}
 use Rattle.refusals.specs.declared.Refusal.{Refusal as Reason}
 use Rattle.refusals.specs.Numbers.{number_of}
 use Rattle.stems.specs.Call.{Refusal, whole_number}
@@ -9,7 +8,7 @@ use Rattle.stems.specs.Memory.{Lent}
 use Rattle.stems.specs.Whole.{Listed, leaves}
 use Rattle.stems.specs.declared.Fixed.{Fixed}
 use Rattle.calls.specs.Refused.{given}
-use Rattle.calls.specs.declared.refused.RefusedVoice.{RefusedVoice}
+use Rattle.calls.specs.declared.refused.Refused.{Refused}
 
 -- what the call leaves of what is lent to it: "nothing written" where its number is not 0, and else each voice's answer, put where its own
 -- lies
@@ -21,7 +20,7 @@ abbrev pub RefusedBy : Fixed → Lent → List Refusal → Type 0
 RefusedBy = Listed
 
 -- what `tick` ensures of what it is lent, of what it gives back, and of what was lent to it as it leaves it
-abbrev pub Ensured : Fixed → Lent → Result (ArrayVec RefusedVoice) Reason → Lent → Type 0
+abbrev pub Ensured : Fixed → Lent → Result Refused Reason → Lent → Type 0
 Ensured fx x r after =
     (number_of r ≡ whole_number fx x) × (after.memory.records ≡ (left fx x).memory.records)
     × (after.memory.region0 ≡ (left fx x).memory.region0) × (after.memory.region1 ≡ (left fx x).memory.region1)

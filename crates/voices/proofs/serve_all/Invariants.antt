@@ -1,7 +1,6 @@
 -- `voices::serve_all` meets its contract: after i turns the state is what the first i voices leave, the records behind are as they were
 -- lent, and each answer so far was as long as what it is put over. Assumes nothing.
-use Rattle.std.proofs.Common.{◌≡◌, ℕ, ◌≤◌, ◌<◌, List, ℤ, get_or}
-use Rattle.arrayvec.specs.ArrayVec.{array_vec_len}
+use Rattle.std.proofs.Common.{◌≡◌, ℕ, ◌≤◌, ◌<◌, List, ℤ, length, get_or}
 use Rattle.voice.specs.Blank.{default_voice}
 use Rattle.voice.specs.declared.record.Voice.{Voice}
 use Rattle.stems.specs.Call.{Refusal}
@@ -28,7 +27,7 @@ invariant-loop-i l =
     ticked l.fixed l.window (is_second l.read) k l.initial.voices l.initial.region0 l.initial.region1 l.initial.lanes in
     record {
       served : state l.voices l.region0 l.region1 l.lanes l.mixes (refusals_of l.refused.items) ≡ so_far l.i;
-      few : array_vec_len l.refused ≤ l.i;
+      few : length l.refused.items ≤ l.i;
       waiting : (j : ℕ) → l.i ≤ j → get_or l.voices j default_voice ≡ get_or l.initial.voices j default_voice;
       long : (j : ℕ) → j < l.i → LongAt l.fixed l.window (is_second l.read) j (so_far j);
     }

@@ -11,7 +11,7 @@ pub returns-in-Err-clause-items : goal.returns-in-Err-clause-items
 returns-in-Err-clause-items c =
     let a = c.args in
     let so_far = refusals_of a.refused.now.items in
-    ap refusals_of c.push.ensures.items ∙ map-append refusal a.refused.now.items _ ∙ noted_one a.voice.number c.in-Err.refusal so_far
+    ap refusals_of c.push.ensures ∙ map-append refusal a.refused.now.items _ ∙ noted_one a.voice.number c.in-Err.refusal so_far
     ∙ ap (λ r. refused_after a.voice.number (number_of r) so_far) (sym c.in-Err.is)
 
 pub returns-in_default-clause-items : goal.returns-in_default-clause-items
