@@ -17,7 +17,7 @@ ghost use Rattle.alone.specs.TickVoice.{Ensured};
 
 use calls::begin::begin;
 use calls::refusal::{accept_alone, accept_lent};
-use calls::refused::{Refused, note};
+use calls::refused::Refused;
 use calls::voice_number::VoiceNumber;
 use numbers::sizes::MIXES;
 use refusals::Refusal;
@@ -52,13 +52,11 @@ fn serve_alone(
     ensures mixes { mixes.new ≡ (ticked fixed window.now (second_of fixed region0.old region1.old) voice.number
         voices.old region0.old region1.old lanes.old).mixes }
 {
-    let read = begin(fixed, region0, region1, mixes);
-    let outcome = serve_at(
-        voices, voice, read, fixed, region0, region1, window, lanes, mixes,
+    let mut turn = begin(fixed, region0, region1, mixes);
+    let _ = serve_at(
+        voices, voice, &mut turn, fixed, region0, region1, window, lanes, mixes,
     );
-    let mut refused = Refused::new();
-    note(&mut refused, voice, outcome);
-    refused
+    turn.refused
 }
 
 // Serves one frame of one voice. `fixed` is what every call of a run is handed alike.

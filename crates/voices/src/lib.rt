@@ -16,7 +16,7 @@ ghost use Rattle.voices.specs.Tick.{Ensured};
 
 use calls::begin::begin;
 use calls::refusal::{accept_lent, accept_records};
-use calls::refused::{Refused, VOICES, note};
+use calls::refused::{Refused, VOICES};
 use calls::voice_number::VoiceNumber;
 use numbers::sizes::MIXES;
 use refusals::Refusal;
@@ -54,16 +54,14 @@ fn serve_all(
         (ticked fixed window.now (second_of fixed region0.old region1.old) j
         voices.old region0.old region1.old lanes.old) }
 {
-    let read = begin(fixed, region0, region1, mixes);
-    let mut refused = Refused::new();
+    let mut turn = begin(fixed, region0, region1, mixes);
     for i in 0..VOICES {
         let voice = VoiceNumber { number: i };
-        let outcome = serve_at(
-            voices, voice, read, fixed, region0, region1, window, lanes, mixes,
+        let _ = serve_at(
+            voices, voice, &mut turn, fixed, region0, region1, window, lanes, mixes,
         );
-        note(&mut refused, voice, outcome);
     }
-    refused
+    turn.refused
 }
 
 // Serves one frame of all voices. `fixed` is what every call of a run is handed alike.

@@ -4,7 +4,7 @@ use Rattle.std.proofs.Common.{◌≡◌, ℕ, ◌≤◌, ◌<◌, List, ℤ, len
 use Rattle.voice.specs.Blank.{default_voice}
 use Rattle.voice.specs.declared.record.Voice.{Voice}
 use Rattle.stems.specs.Call.{Refusal}
-use Rattle.calls.specs.Begin.{is_second}
+use Rattle.calls.specs.Begin.{is_second, second_of}
 use Rattle.calls.specs.Refused.{refusals_of}
 use Rattle.turns.specs.Turns.{State, LongAt}
 use Rattle.voices.specs.Inner.{ticked}
@@ -23,11 +23,13 @@ state voices region0 region1 lanes mixes refused = record {
 
 abbrev pub invariant-loop-i : goal.invariant-loop-i
 invariant-loop-i l =
+    let second = second_of l.fixed l.initial.region0 l.initial.region1 in
     let so_far : ℕ → State = λ k.
-    ticked l.fixed l.window (is_second l.read) k l.initial.voices l.initial.region0 l.initial.region1 l.initial.lanes in
+    ticked l.fixed l.window second k l.initial.voices l.initial.region0 l.initial.region1 l.initial.lanes in
     record {
-      served : state l.voices l.region0 l.region1 l.lanes l.mixes (refusals_of l.refused.items) ≡ so_far l.i;
-      few : length l.refused.items ≤ l.i;
+      served : state l.voices l.region0 l.region1 l.lanes l.mixes (refusals_of l.turn.refused.items) ≡ so_far l.i;
+      read : is_second l.turn.read ≡ second;
+      few : length l.turn.refused.items ≤ l.i;
       waiting : (j : ℕ) → l.i ≤ j → get_or l.voices j default_voice ≡ get_or l.initial.voices j default_voice;
-      long : (j : ℕ) → j < l.i → LongAt l.fixed l.window (is_second l.read) j (so_far j);
+      long : (j : ℕ) → j < l.i → LongAt l.fixed l.window second j (so_far j);
     }
