@@ -59,7 +59,7 @@ pub struct Voice {
     pub ramp: [f32; GAINS],
     pub coefficients: [i16; COEFFICIENTS],
     pub history: History,
-    // document 01's 64-place queue with its count: the places past the count are blank, so this is no `ArrayVec`
+    // document 01's 64-place queue with its count: the places past the count are blank, so this is no list of fixed room
     pub queue: [Entry; PLACES],
     pub queued: usize,
     // the entry being played, where its mark is on: document 01's record has the mark beside it, so this is no `Option`
