@@ -12,6 +12,10 @@ and_no y e = ap (λ (b : Bool). b && y) e
 pub and_yes : {x : Bool} (y : Bool) → x ≡ true → (x && y) ≡ y
 and_yes y e = ap (λ (b : Bool). b && y) e
 
+pub and_not : (x : Bool) {y : Bool} → y ≡ false → (x && y) ≡ false
+and_not true e = e
+and_not false e = refl
+
 pub or_no : {x : Bool} (y : Bool) → x ≡ false → (x || y) ≡ y
 or_no y e = ap (λ (b : Bool). b || y) e
 

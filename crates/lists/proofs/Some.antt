@@ -104,6 +104,10 @@ module _ {A : Type 0} (test : A → Bool) where
   every_at (x ∷ xs) zero d e t = (every_split x xs e).0
   every_at (x ∷ xs) (suc k) d e t = every_at xs k d (every_split x xs e).1 t
 
+  pub at_every : (xs : List A) (d : A) → ((k : ℕ) → k < length xs → test (get_or xs k d) ≡ true) → every test xs ≡ true
+  at_every [] d f = refl
+  at_every (x ∷ xs) d f = every_cons x xs (f zero (suc-le-suc zero-le)) (at_every xs d (λ k h. f (suc k) (suc-le-suc h)))
+
   pub every_append : (xs ys : List A) → every test (xs ++ ys) ≡ (every test xs && every test ys)
   every_append [] ys = refl
   every_append (x ∷ xs) ys = ap (λ (b : Bool). test x && b) (every_append xs ys) ∙ and_assoc (test x) (every test xs) (every test ys)

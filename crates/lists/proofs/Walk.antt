@@ -1,14 +1,14 @@
--- A walk over a list by an index: what is left of it, one element further; the two sides of a bound; and what an index within reads.
--- Assumes nothing.
-use mathlib.Core.Path.{◌≡◌, refl, sym, ap, ◌∙◌}
+-- A walk over a list by an index: what is left of it, one element further; the two sides of a bound; and what every index reads. Assumes
+-- nothing.
+use mathlib.Core.Path.{◌≡◌, refl, sym, ap, ◌∙◌, subst}
 use mathlib.Core.List.{List, [], ◌∷◌}
-use mathlib.Core.Logic.{◌⊎◌, inl, inr}
+use mathlib.Core.Logic.{◌⊎◌, inl, inr, ⊎_elim}
 use Prim.Native.Nat.{ℕ, zero, suc, ◌+◌, ◌<◌, ◌≤◌}
 use native.Mathlib.Decide.{dec_lt}
 use native.Mathlib.Nat.{le_of_suc-le-suc, not-suc-le-zero}
 use native.Mathlib.Numerals.{add-one}
 use native.Mathlib.Omega.{arith}
-use lib.ListN.{length, drop, get_or, drop_of_length-le}
+use lib.ListN.{length, drop, get_or, drop_of_length-le, get_or-eq_default}
 use lib.Seq.{drop-cons}
 
 -- one number is below another, or it is not
@@ -27,3 +27,9 @@ module _ {A : Type 0} where
   get_d_any [] i d e h = absurd (not-suc-le-zero h)
   get_d_any (x ∷ xs) zero d e h = refl
   get_d_any (x ∷ xs) (suc i) d e h = get_d_any xs i d e (le_of_suc-le-suc h)
+
+  -- what holds of each element, and of what is read past the end, holds at every index
+  pub everywhere :
+      (P : A → Type 0) (xs : List A) (d : A) → P d → ((k : ℕ) → k < length xs → P (get_or xs k d))
+      → (k : ℕ) → P (get_or xs k d)
+  everywhere P xs d p h k = ⊎_elim (h k) (λ (l : length xs ≤ k). subst P (sym (get_or-eq_default xs d l)) p) (below_or k (length xs))

@@ -1,8 +1,8 @@
--- A number stored in bytes is read back: a quotient by 256 or 65536 and its remainder are the number again. Reading in a part is reading in
--- the whole. Assumes nothing.
+-- A number stored in bytes is read back, and bytes read as a number are stored back: a quotient by 256 or 65536 and its remainder are the
+-- number again. Reading in a part is reading in the whole. Assumes nothing.
 use mathlib.Core.Path.{◌≡◌, sym, ap, ap₂, ◌∙◌}
-use mathlib.Core.List.{List}
-use Prim.Native.Nat.{ℕ, ◌+◌, ◌*◌, ◌≤◌}
+use mathlib.Core.List.{List, [], ◌∷◌, ◌++◌}
+use Prim.Native.Nat.{ℕ, ◌+◌, ◌*◌, ◌/◌, ◌%◌, ◌≤◌, ◌<◌}
 use native.Mathlib.Nat.{add_assoc}
 use native.Mathlib.Omega.{arith}
 use lib.ListN.{length, get_or}
@@ -20,6 +20,31 @@ read_bytes32 n = omega arith
 
 pub read_dsp32_bytes : (n : ℕ) → at_dsp32 (dsp32_bytes n) 0 ≡ n
 read_dsp32_bytes n = omega arith
+
+-- ---- bytes read, as bytes
+
+pub bytes16_read : (w x : ℕ) → w < 256 → x < 256 → bytes16 (at16 (w ∷ x ∷ []) 0) ≡ w ∷ x ∷ []
+bytes16_read w x a b = ap₂ (λ (i j : ℕ). i ∷ j ∷ []) (omega arith) (omega arith)
+
+-- the higher and the lower half of a number made of two
+upper : (high low : ℕ) → low < 65536 → (high * 65536 + low) / 65536 ≡ high
+upper high low h = omega arith
+
+lower : (high low : ℕ) → low < 65536 → (high * 65536 + low) % 65536 ≡ low
+lower high low h = omega arith
+
+module _ (w x y z : ℕ) (a : w < 256) (b : x < 256) (c : y < 256) (d : z < 256) where
+  pub bytes32_read : bytes32 (at32 (w ∷ x ∷ y ∷ z ∷ []) 0) ≡ w ∷ x ∷ y ∷ z ∷ []
+  bytes32_read =
+      ap₂ (λ (i j : ℕ). bytes16 i ++ bytes16 j) (lower (z * 256 + y) (x * 256 + w) (omega arith))
+      (upper (z * 256 + y) (x * 256 + w) (omega arith))
+      ∙ ap₂ (λ (i j : List ℕ). i ++ j) (bytes16_read w x a b) (bytes16_read y z c d)
+
+  pub dsp32_bytes_read : dsp32_bytes (at_dsp32 (w ∷ x ∷ y ∷ z ∷ []) 0) ≡ w ∷ x ∷ y ∷ z ∷ []
+  dsp32_bytes_read =
+      ap₂ (λ (i j : ℕ). bytes16 i ++ bytes16 j) (upper (x * 256 + w) (z * 256 + y) (omega arith))
+      (lower (x * 256 + w) (z * 256 + y) (omega arith))
+      ∙ ap₂ (λ (i j : List ℕ). i ++ j) (bytes16_read w x a b) (bytes16_read y z c d)
 
 -- ---- a number in a part, and in the whole
 

@@ -1,10 +1,10 @@
 -- A whole number's nearest f32 from its two halves: each is a float exactly, and so is the upper one times 2 ^ 16, so only the sum rounds.
 -- Assumes nothing.
-use Rattle.std.proofs.Common.{◌≡◌, ℕ, suc, ◌-◌, ◌*◌, ◌/◌, ◌%◌, ◌^◌, ◌<◌, ◌≤◌, Bool, true, false, ◌&&◌, ltb, ℤ, pos, negsuc, nat_abs, sym}
+use Rattle.std.proofs.Common.{◌≡◌, ℕ, suc, ◌-◌, ◌*◌, ◌/◌, ◌%◌, ◌^◌, ◌<◌, ◌≤◌, Bool, true, false, ◌&&◌, T, ltb, ℤ, pos, negsuc, nat_abs, sym}
 use Rattle.std.proofs.Common.{refl, ap, ◌∙◌, lt_of_le_of_lt, mul-le-mul_right, zero-lt-suc, mul_assoc, div-add-mod', mul-one, arith, lit<}
-use Rattle.std.proofs.Common.{le-ltb, lt-ltb}
+use Rattle.std.proofs.Common.{le→leb, lt→ltb, le-ltb, lt-ltb}
 use lib.Signed.{shr_z, mag}
-use lib.Ieee.{Float, fin, binary32, round, unlike, sum, add, mul, of_int}
+use lib.Ieee.{Float, fin, binary32, round, unlike, sum, add, mul, of_int, in_float}
 use lib.Ieee.Exact.{HasValue, round_exact}
 use Rattle.lists.proofs.Bools.{cond_no}
 use Rattle.numbers.specs.Wrap.{mod_z}
@@ -60,3 +60,12 @@ pub halves :
     (of_int binary32 (pos (mod_z n 65536))) ≡ of_int binary32 n
 halves (pos m) h = summed (pos (m / 65536)) (m % 65536) (omega arith) (omega arith) ∙ whole_sum m
 halves (negsuc m) h = summed (negsuc (m / 65536)) (65536 - suc (m % 65536)) (omega arith) (omega arith) ∙ negative_sum m
+
+pub upper_counted : (n : ℤ) → mag n < 2147483648 → T (in_float binary32 (shr_z n 65536))
+unfolding in_float
+upper_counted (pos m) h = le→leb (m / 65536) 16777216 (omega arith)
+upper_counted (negsuc m) h = lt→ltb (m / 65536) 16777216 (omega arith)
+
+pub lower_counted : (n : ℕ) → n < 65536 → T (in_float binary32 (pos n))
+unfolding in_float
+lower_counted n h = le→leb n 16777216 (omega arith)

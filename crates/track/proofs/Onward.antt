@@ -37,6 +37,11 @@ unfolding put
 put_length frame k s = simp length-set
 
 module _ (window : List ℕ) (base : ℕ) (lane : List ℤ) (t : Track) where
+  pub laid_length : (c : Cursor) (output n : ℕ) (frame : List ℤ) → length (laid window base lane t c output n frame) ≡ length frame
+  unfolding laid
+  laid_length c output zero frame = refl
+  laid_length c output (suc n) frame = put_length _ _ _ ∙ laid_length c output n frame
+
   pub laid_none : (c : Cursor) (output : ℕ) (frame : List ℤ) → laid window base lane t c output 0 frame ≡ frame
   unfolding laid
   laid_none c output frame = refl
@@ -126,3 +131,14 @@ module _ (t : Track) (c : Cursor) (room : ℕ) where
     where
       one : suc n ≡ n + 1
       one = omega arith
+
+  -- a stretch that fills the room is a turn
+  pub turned_full : (n : ℕ) (at : Cursor) → Onward t c room (record { cursor = at; count = n }) → n ≡ room → 0 < room
+      → Turned t c room (record { cursor = at; count = n })
+  turned_full n at a e h = record {
+    some = omega arith;
+    count_most = a.count_most;
+    cursor_is = a.cursor_is;
+    inside = λ j l. a.inside j (omega arith);
+    ended = inl e;
+  }

@@ -1,6 +1,6 @@
 -- The laws of tidying: how long a tidied queue and tidied ramps are and what stands at a place of them; a tidied voice is blank where it
 -- must be, and a voice that is so is left alone. Assumes nothing.
-use Prim.Native.Nat.{ℕ, ◌-◌, ◌/◌, ◌<◌, ◌≤◌}
+use Prim.Native.Nat.{ℕ, zero, suc, ◌-◌, ◌/◌, ◌<◌, ◌≤◌}
 use mathlib.Core.Bool.{Bool, true, false, cond}
 use mathlib.Core.List.{List, ◌++◌}
 use mathlib.Core.Logic.{◌⊎◌, inl, inr}
@@ -20,7 +20,7 @@ use Rattle.adpcm.specs.declared.History.{History}
 use Rattle.filters.specs.Defaults.{default_simple, default_biquad}
 use Rattle.voice.specs.declared.record.Entry.{Entry}
 use Rattle.voice.specs.declared.record.Voice.{Voice}
-use Rattle.voice.specs.Blank.{places, blank_history, blank_entry, blank_gain}
+use Rattle.voice.specs.Blank.{places, blank_history, blank_entry, blank_gain, default_voice}
 use Rattle.voice.specs.Set.{set_entry_adpcm, set_voice_queue, set_voice_ramp, set_voice_filters, set_voice_playing}
 use Rattle.voice.specs.Tidy.{tidy_entry, tidy_under, tidy_queue, tidy_gain, tidy_ramp, tidy_filters, tidied, BlankEntry, Blank}
 
@@ -212,3 +212,20 @@ module _ (v : Voice) (b : Blank v) where
 pub tidied_twice : (v : Voice) → tidied (tidied v) ≡ tidied v
 unfolding tidied
 tidied_twice v = blank_kept (tidied v) (tidied_blank v) (length_queue v.queued v.queue) (length_ramp v.has_ramp v.ramp)
+
+all_same : {A : Type 0} (a : A) (n k : ℕ) → get_or (replicate n a) k a ≡ a
+all_same a zero k = refl
+all_same a (suc n) zero = refl
+all_same a (suc n) (suc k) = all_same a n k
+
+pub default_blank : Blank default_voice
+unfolding default_voice
+default_blank = record {
+  entries = λ k h. let bad : ⊥ = omega arith in absurd bad;
+  places = λ k h. all_same blank_entry places k;
+  ramp = λ k off. all_same blank_gain 12 k;
+  simple = λ off. refl;
+  biquad = λ off. refl;
+  silent = λ off. refl;
+  playing = λ on. blank_is_blank;
+}
