@@ -98,30 +98,23 @@ fn answer_of(
     let layout = layout_of(head, 8);
     let base = word(head, 36);
     let fixed = Fixed { layout, base };
-    match call {
-        Call::Whole => voice_calls::call(
-            None,
-            times,
-            fixed,
-            fields,
-            places.voices,
-            places.samples,
-            places.values,
-        ),
-        Call::Alone(voice) => voice_calls::call(
-            Some(voice),
-            times,
-            fixed,
-            fields,
-            places.voices,
-            places.samples,
-            places.values,
-        ),
+    let alone = match call {
         Call::Mixer(read) => {
             let state = state_of(&head[44..]);
-            mixer_calls::call(times, state, layout, read, fields, places.values)
+            return mixer_calls::call(times, state, layout, read, fields, places.values);
         }
-    }
+        Call::Alone(voice) => Some(voice),
+        Call::Whole => None,
+    };
+    voice_calls::call(
+        alone,
+        times,
+        fixed,
+        fields,
+        places.voices,
+        places.samples,
+        places.values,
+    )
 }
 
 // Reads and answers the job that this head begins. Of what is lent for its fields it has the first bytes, as many as the head says.
