@@ -4,7 +4,8 @@ use Rattle.std.proofs.Common.{to_z, of_z, to_z-of_z, true, false, true≢false, 
 use lib.Signed.{mag}
 use mir.Syntax.{w16}
 use Rattle.std.specs.Fmt as fmt
-use Rattle.std.proofs.lemmas.Fmt.{AppendsLastDigit, decimal_from_appends, decimal_nonempty, length-decimal-le, length-decimal-le_succ}
+use Rattle.std.proofs.lemmas.Fmt.{AppendsLastDigit, decimal_from_appends, decimal_nonempty}
+use Rattle.std.proofs.lemmas.Fmt.{length-decimal-le, length-decimal-le_succ, length_signed_le}
 use borrow.Author.Tests.{lt-ltb, le-ltb}
 use Rattle.lists.proofs.Bools.{cond_yes, cond_no}
 use Rattle.listing.specs.Text.{last_digit, decimal_in, decimal, signed_decimal, column}
@@ -29,13 +30,19 @@ pub same_signed : (z : ℤ) → mag z < 2 ^ 63 → fmt.signed_decimal z ≡ sign
 same_signed (pos n) h = same_decimal n (omega arith)
 same_signed (negsuc n) h = ap (λ (digits : List ℕ). 45 ∷ digits) (same_decimal (suc n) (omega arith))
 
--- a sample's column as the code reads it
+-- a sample as the code reads it: its column, and that it fits one
 module _ {z : ℤ} (f : SFits w16 z) where
   small : mag z < 2 ^ 15
   small = f.sfits
 
   pub shown : column width (fmt.signed_decimal (to_z w16 (of_z w16 z))) ≡ column width (signed_decimal z)
   shown = ap (λ (y : ℤ). column width (fmt.signed_decimal y)) (to_z-of_z f) ∙ ap (column width) (same_signed z (omega arith))
+
+  pub sample_narrow : length (fmt.signed_decimal (to_z w16 (of_z w16 z))) ≤ width
+  sample_narrow =
+      let e = ap (λ (y : ℤ). length (fmt.signed_decimal y)) (to_z-of_z f) in
+      let short = length_signed_le 5 z (omega arith) (omega arith) in
+      omega arith
 
 -- a sample's text by the sign that the code tests
 pub plain : (z : ℤ) → int_lt z (pos 0) ≡ false → fmt.decimal (unsigned_abs z) ≡ fmt.signed_decimal z
