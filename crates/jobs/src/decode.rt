@@ -5,7 +5,7 @@ ghost use Rattle.std.specs.Prelude.{◌≤◌, length, IfSome};
 use crate::sizes::{HALVES, ROOM};
 use listing::input;
 use listing::sizes::HEADER;
-use replaying::put_each;
+use replaying::held::put_each;
 
 pub fn answer<'a>(part: &[u8], out: &'a mut [u8; ROOM]) -> Option<&'a [u8]>
     ensures { IfSome result (λ s. length s.now ≤ 131074) }

@@ -6,7 +6,8 @@ ghost use Rattle.listing.specs.Sizes.{input_room};
 
 use crate::sizes::ROOM;
 use listing::sizes::{HEADER, INPUT_ROOM, OUTPUT_ROOM};
-use replaying::{put_each, read, sum};
+use replaying::held::{put_each, read};
+use replaying::sum;
 
 const PART: usize = 44;
 

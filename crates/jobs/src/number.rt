@@ -1,6 +1,6 @@
 // A call of a function on numbers alone. The part has 28 bytes: a number's kind as number_jobs has it, a word; its operands, three numbers
 // of 64 bits. The answer is a number of 64 bits.
-use replaying::{read, read_array};
+use replaying::held::{read, read_array};
 
 const PART: usize = 28;
 

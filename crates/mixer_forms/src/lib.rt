@@ -8,7 +8,7 @@ ghost use Rattle.std.specs.Prelude.{◌+◌, ◌≤◌, length};
 use layout::Layout;
 use mixer_state::{Mixer, Output};
 use numbers::sizes::FRAME;
-use replaying::{put_each, read_array};
+use replaying::held::{put_each, read_array};
 
 // Where the switches begin in a state.
 const SWITCHES: usize = 12;

@@ -22,7 +22,8 @@ use mixer::tick::{Mixed, tick};
 use mixer_forms::{layout_of, put_frame, put_state, state_of};
 use numbers::sizes::{MIX, MIXES};
 use refusals::answered;
-use replaying::{put_each, read, read_array, sum};
+use replaying::held::{put_each, read, read_array};
+use replaying::sum;
 
 const PART: usize = 596;
 

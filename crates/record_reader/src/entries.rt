@@ -1,7 +1,7 @@
 // The record's entries: the one that plays, and the queue.
 use crate::{ENTRY, RECORD};
 use adpcm::History;
-use replaying::read;
+use replaying::held::read;
 use voice::blank::PLACES;
 use voice::record::{Entry, Format};
 
@@ -16,7 +16,7 @@ pub fn format_of(code: u8) -> Format {
 
 // The history that the bytes begin with.
 pub fn history_of(bytes: &[u8]) -> History {
-    let [yn1, yn2] = replaying::read_array::<2, 2, i16>(bytes);
+    let [yn1, yn2] = replaying::held::read_array::<2, 2, i16>(bytes);
     History { yn1, yn2 }
 }
 

@@ -1,7 +1,7 @@
 // The record's filters.
 use crate::RECORD;
 use filters::state::{BiquadFilter, Filters, SimpleFilter};
-use replaying::{read, read_array};
+use replaying::held::{read, read_array};
 
 pub fn filters_of(bytes: &[u8; RECORD]) -> Filters {
     let simple = SimpleFilter {

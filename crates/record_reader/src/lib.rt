@@ -20,7 +20,7 @@
 
 use crate::entries::{entry_of, format_of, queue_of};
 use crate::filtering::filters_of;
-use replaying::{read, read_array};
+use replaying::held::{read, read_array};
 use voice::record::{Interpolation, Voice};
 
 mod entries;

@@ -1,7 +1,7 @@
 // The record's entries: the one that plays, and the queue.
 use adpcm::History;
 use record_reader::{ENTRY, RECORD};
-use replaying::{put, put_each};
+use replaying::held::{put, put_each};
 use voice::blank::PLACES;
 use voice::record::Entry;
 

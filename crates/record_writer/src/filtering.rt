@@ -1,7 +1,7 @@
 // The record's filters.
 use filters::state::Filters;
 use record_reader::RECORD;
-use replaying::put_each;
+use replaying::held::put_each;
 
 pub fn put_filters(f: Filters, bytes: &mut [u8; RECORD]) {
     let factors = [f.simple.b0, f.simple.a1];

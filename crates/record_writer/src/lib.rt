@@ -3,7 +3,7 @@
 
 use crate::entries::{put_entry, put_history, put_queue};
 use record_reader::RECORD;
-use replaying::{put, put_each};
+use replaying::held::{put, put_each};
 use voice::record::Voice;
 
 mod entries;

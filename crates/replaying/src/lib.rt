@@ -1,25 +1,24 @@
-// Test only: what the programs that replay the oracle's answers share: values that stand in bytes one after the other (`stored`), and a
-// sum. Nothing is refused: what one side has too few of, the other keeps.
+// Test only: what the programs that replay the oracle's answers share: values that stand in bytes one after the other, those that say how
+// (`held`) and any (`stored`), and a sum. Nothing is refused: what one side has too few of, the other keeps.
 #![tactic(auto)]
 
 pub mod answering;
+pub mod held;
 pub mod stored;
 
-ghost use Rattle.std.specs.Prelude.{◌≡◌, ◌<◌, ◌≤◌, ◌++◌, ℕ, length, drop, replicate, fold};
-ghost use Rattle.replaying.specs.Stored.{front_of, read_over, with_place};
+ghost use Rattle.std.specs.Prelude.{◌≡◌, ◌<◌, ◌≤◌, ℕ, length, fold};
+ghost use Rattle.std.proofs.Common.{lit<, lit≤};
+ghost use Rattle.replaying.specs.Stored.{with_place};
 
 use stored::InBytes;
 
 // The value that the bytes begin with, or that of zeros where they are too few.
-pub fn read<const N: usize, T: InBytes<N>>(bytes: &[u8]) -> T
-    ensures { result ≡ T.held (front_of N bytes.now) }
-{
+pub fn read<const N: usize, T: InBytes<N>>(bytes: &[u8]) -> T {
     T::of(*bytes.first_chunk::<N>().unwrap_or(&[0; N]))
 }
 
 // Puts a value where the bytes begin, or nothing where they are too few.
 pub fn put<const N: usize, T: InBytes<N>>(value: T, bytes: &mut [u8])
-    ensures room { N ≤ length bytes.old → bytes.new ≡ T.bytes_of value ++ drop N bytes.old }
     ensures none { length bytes.old < N → bytes.new ≡ bytes.old }
 {
     if N <= bytes.len() {
@@ -28,20 +27,15 @@ pub fn put<const N: usize, T: InBytes<N>>(value: T, bytes: &mut [u8])
 }
 
 // Reads values one after the other, as many as both have.
-pub fn read_each<const N: usize, T: InBytes<N>>(bytes: &[u8], values: &mut [T])
-    ensures { values.new ≡ read_over T.held N bytes.now values.old }
-{
+pub fn read_each<const N: usize, T: InBytes<N>>(bytes: &[u8], values: &mut [T]) {
     let (parts, _) = bytes.as_chunks::<N>();
-    let count = parts.len().min(values.len());
-    for (i, part) in parts[..count].iter().enumerate() {
-        values[i] = T::of(*part);
+    for (value, part) in values.iter_mut().zip(parts) {
+        *value = T::of(*part);
     }
 }
 
 // The first K values, those of zeros for what the bytes do not have.
-pub fn read_array<const N: usize, const K: usize, T: InBytes<N>>(bytes: &[u8]) -> [T; K]
-    ensures { result ≡ read_over T.held N bytes.now (replicate K (T.held (replicate N 0))) }
-{
+pub fn read_array<const N: usize, const K: usize, T: InBytes<N>>(bytes: &[u8]) -> [T; K] {
     let mut values = [T::of([0; N]); K];
     read_each::<N, T>(bytes, &mut values);
     values
@@ -86,27 +80,38 @@ pub fn sum_of<T: Copy, F: Fn(T) -> u32>(values: &[T], word: F) -> u32
 mod tests {
     use super::*;
 
-    #[test]
-    fn values_come_back(rt: HostRuntime) {
-        let mut bytes = [0u8; 14];
-        put_each(&[1.5f32, -2.0], &mut bytes);
-        put_each(&[-3i16, 4], &mut bytes[8..]);
-        put(true, &mut bytes[12..]);
-        let [first, second] = read_array::<4, 2, f32>(&bytes);
-        assert!(rt; first == 1.5 && second == -2.0);
-        let [third, fourth] = read_array::<2, 2, i16>(&bytes[8..]);
-        assert!(rt; third == -3 && fourth == 4);
-        let mark: bool = read(&bytes[12..]);
-        assert!(rt; mark && bytes[13] == 0);
+    // a type that says nothing of its bytes
+    #[derive(Clone, Copy)]
+    struct Pair(u8, u8);
+
+    impl InBytes<2> for Pair {
+        ghost some = { lit< tt };
+
+        ghost few = { lit≤ tt };
+
+        fn of(bytes: [u8; 2]) -> Pair {
+            Pair(bytes[1], bytes[0])
+        }
+
+        fn stored(self) -> [u8; 2] {
+            [self.1, self.0]
+        }
     }
 
     #[test]
-    fn too_few_bytes(rt: HostRuntime) {
-        let [first, second] = read_array::<4, 2, u32>(&[1, 0, 0, 0, 9]);
-        assert!(rt; first == 1 && second == 0);
-        let mut bytes = [7u8; 3];
-        put(5u32, &mut bytes);
-        assert!(rt; bytes[0] == 7);
+    fn any_type_stands_in_bytes(rt: HostRuntime) {
+        let mut bytes = [0u8; 6];
+        put(Pair(1, 2), &mut bytes);
+        put_each(&[Pair(3, 4), Pair(5, 6)], &mut bytes[2..]);
+        let first: Pair = read(&bytes);
+        assert!(rt; first.0 == 1 && first.1 == 2 && bytes[0] == 2);
+        let [_, last]: [Pair; 2] = read_array(&bytes[2..]);
+        assert!(rt; last.0 == 5 && last.1 == 6);
+        let mut pairs = [Pair(0, 0); 4];
+        read_each(&bytes, &mut pairs);
+        assert!(rt; pairs[1].0 == 3 && pairs[2].1 == 6 && pairs[3].0 == 0);
+        let half: u16 = read(&bytes);
+        assert!(rt; half == 0x0102);
     }
 
     #[test]

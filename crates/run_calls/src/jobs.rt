@@ -28,7 +28,7 @@ use crate::{mixer_calls, voice_calls};
 use mixer_forms::{layout_of, state_of};
 use record_reader::RECORD;
 use replaying::answering::{Stop, read_all, read_bytes};
-use replaying::read;
+use replaying::held::read;
 use stems::Fixed;
 
 const HEAD: usize = 84;

@@ -3,8 +3,7 @@ ghost use Rattle.std.specs.Prelude.{◌≡◌, ◌/◌, length, min};
 
 use numbers::sizes::{MIXES, VOICES};
 use replaying::answering::{Stop, read_all};
-use replaying::read_each;
-use replaying::stored::InBytes;
+use replaying::held::{Held, read_each};
 use std::io;
 use voice::record::Voice;
 
@@ -18,7 +17,7 @@ pub const MOST_SAMPLES: usize = VOICES * 2048 + 1;
 pub const MOST_VALUES: usize = MIXES + 1;
 
 // The values that the bytes hold, in the first places.
-pub fn filled<'a, const N: usize, T: InBytes<N>>(bytes: &[u8], places: &'a mut [T]) -> &'a mut [T]
+pub fn filled<'a, const N: usize, T: Held<N>>(bytes: &[u8], places: &'a mut [T]) -> &'a mut [T]
     ensures { length result.now ≡ min (length bytes.now / N) (length places.old) }
 {
     read_each(bytes, places);

@@ -6,7 +6,7 @@ use calls::refused::Refused;
 use record_reader::{RECORD, record_of};
 use record_writer::put_record;
 use refusals::Refusal;
-use replaying::put_each;
+use replaying::held::put_each;
 use stems::Fixed;
 use voice::record::Voice;
 use voices::tick;

@@ -4,7 +4,7 @@
 use crate::written::write_answer;
 use refusals::answered;
 use replaying::answering::{Stop, read_all, read_bytes, read_word};
-use replaying::{put_each, read_each};
+use replaying::held::{put_each, read_each};
 use voice_jobs::playing::play;
 use window::Window;
 

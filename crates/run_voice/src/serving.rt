@@ -8,7 +8,8 @@ use frame_jobs::serving::serve;
 use numbers::sizes::MIXES;
 use refusals::answered;
 use replaying::answering::{Stop, read_bytes, read_word};
-use replaying::{put_each, read_array, sum_of};
+use replaying::held::{put_each, read_array};
+use replaying::sum_of;
 use window::Window;
 
 const LANE: usize = 64;

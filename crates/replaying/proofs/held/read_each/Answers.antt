@@ -1,16 +1,16 @@
--- `replaying::read_each` meets its contract: the loop fills the values from the front. Assumes nothing.
+-- `replaying::held::read_each` meets its contract: the loop fills the values from the front. Assumes nothing.
 use Rattle.std.proofs.Common.{◌≡◌, ◌≤◌, ℕ, List, ◌++◌, length, map, take, drop, set, get_or, ap, ◌∙◌, sym, arith}
 use Rattle.std.proofs.lemmas.List.{take_min, drop_min, take_all}
 use Rattle.std.proofs.Math.Nat.{min_comm, min-le_left, min-le_right}
 use native.Mathlib.Numerals.{add-one}
 use lib.Seq.{length-take-le}
 use Rattle.replaying.proofs.Each.{fill_more}
-use Rattle.replaying.proofs.read_each.Goals as goal
+use Rattle.replaying.proofs.held.read_each.Goals as goal
 
 pub loop-i-preserved : goal.loop-i-preserved
 loop-i-preserved g c =
     let l = c.loop-i in
-    let held = g.T.InBytes.held in
+    let held = g.T.Held.held in
     let old = c.args.values.now in
     let parts = c.as_chunks.result.0.now in
     let m = c.min-count.result in
@@ -27,7 +27,7 @@ loop-i-preserved g c =
 pub returns : goal.returns
 returns g c =
     let l = c.loop-i in
-    let held = g.T.InBytes.held in
+    let held = g.T.Held.held in
     let old = c.args.values.now in
     let parts = c.as_chunks.result.0.now in
     let m = c.min-count.result in
