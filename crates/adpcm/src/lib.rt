@@ -172,7 +172,8 @@ fn decode_frame(
 
 // Decodes as many samples as `samples` holds from the bytes of their frames. Each frame's part of them goes by index, since of `chunks_mut`
 // no proof knows what the slice ends as. The history is kept in a local meanwhile: what is lent would be stored and read at each sample.
-// (With the least of 14 and how many are left, in place of where a part ends, the compiler clamps by jumps: loud samples take twice as long.)
+// (With the least of 14 and how many are left, in place of where a part ends, the compiler clamps by jumps, and loud samples take twice as
+// long.)
 fn decode_all(
     data: &[u8],
     coefficients: &[i16; COEFFICIENTS],

@@ -1,6 +1,7 @@
 // A value that stands in bytes, and in which ones: a number little-endian, a float by its bits, of which all that are not a number have the
 // same, and a mark as a byte that is on unless it is 0. What reads or puts such values says which.
-ghost use Rattle.std.specs.Prelude.{◌≡◌, ◌<◌, ◌≤◌, ◌==◌, ℕ, List, [], ◌∷◌, ◌++◌, not, length, drop, replicate, slice_index, to_bits, from_bits, refl};
+ghost use Rattle.std.specs.Prelude.{◌≡◌, ◌<◌, ◌≤◌, ◌==◌, ℕ, List, [], ◌∷◌, ◌++◌, length, drop, replicate, slice_index};
+ghost use Rattle.std.specs.Prelude.{not, to_bits, from_bits, refl};
 ghost use Rattle.std.specs.Int.{w16, w32, w64, from_bool, cast_signed, cast_unsigned, from_le_bytes, to_le_bytes};
 ghost use Rattle.std.proofs.Common.{lit<, lit≤};
 ghost use lib.Ieee.{binary32, binary64};
